@@ -1,0 +1,64 @@
+use borrow.Author.Needs.{needs}
+use native.Mathlib.Omega.{arith}
+use Prim.Native.Nat.{_≤_, _-_}
+use lib.ListN.{length}
+use Rattle.examples.proofs.paths.list_line.Statement.{statement}
+use Rattle.examples.proofs.paths.list_line.Tie as tie
+use Rattle.examples.proofs.paths.list_line.Reads as reads
+use Rattle.examples.proofs.paths.list_line.Lts as lts
+use Rattle.examples.proofs.line.end.Reads as end-reads
+use Rattle.examples.proofs.line.name.Reads as name-reads
+use Rattle.examples.proofs.line.number.Reads as number-reads
+
+abbrev Inv-loop : tie.InvT-loop
+Inv-loop text list i₀ i = i ≤ length list
+
+abbrev μ-loop : tie.MeasureT-loop
+μ-loop text list i₀ i = length list - i
+
+name-requires : tie.Need-name-requires Inv-loop μ-loop
+name-requires c κs = search needs
+
+loop-holds : tie.Need-loop-holds Inv-loop μ-loop
+loop-holds c = search needs
+
+mul-number : tie.Need-mul-number Inv-loop μ-loop
+mul-number c = search needs
+
+shared-slice-read-number : tie.Need-shared-slice-read-number Inv-loop μ-loop
+shared-slice-read-number c = search needs
+
+number-requires : tie.Need-number-requires Inv-loop μ-loop
+number-requires c κs = search needs
+
+add-i : tie.Need-add-i Inv-loop μ-loop
+add-i c = search needs
+
+loop-less : tie.Need-loop-less Inv-loop μ-loop
+loop-less c = search needs
+
+loop-again : tie.Need-loop-again Inv-loop μ-loop
+loop-again c = search needs
+
+end-requires : tie.Need-end-requires Inv-loop μ-loop
+end-requires c κs = search needs
+
+returns : tie.Need-returns Inv-loop μ-loop
+returns c = search needs
+
+pub list-line-spec : {M : Type 1} → statement M
+list-line-spec =
+    tie.close
+    (tie.spec
+    Inv-loop
+    μ-loop
+    name-requires
+    loop-holds
+    mul-number
+    shared-slice-read-number
+    number-requires
+    add-i
+    loop-less
+    loop-again
+    end-requires
+    returns)

@@ -1,0 +1,47 @@
+use borrow.Author.Needs.{needs}
+use native.Mathlib.Omega.{arith}
+use mathlib.Core.Path.{_≡_, _∙_, ap}
+use Rattle.path.specs.declared.list.Listed.{Listed}
+use Rattle.path.proofs.ListLaws.{pair-counts, length-pair-numbers}
+use Rattle.examples.proofs.paths.pair_line.Statement.{statement}
+use Rattle.examples.proofs.paths.pair_line.Tie as tie
+use Rattle.examples.proofs.paths.pair_line.Reads as reads
+use Rattle.examples.proofs.paths.pair_line.Lts as lts
+use Rattle.examples.proofs.paths.counts_line.Reads as counts-line-reads
+use Rattle.examples.proofs.paths.list_line.Reads as list-line-reads
+use Rattle.path.proofs.sizes.Sizes.list_pair.Reads as list-pair-reads
+
+slice-aggregate-list-pair : tie.Need-slice-aggregate-list-pair
+slice-aggregate-list-pair c = search needs
+
+list-pair-requires : tie.Need-list-pair-requires
+list-pair-requires c κs =
+    let s = c .before .before .args in
+    let n = length-pair-numbers (s .sizes .h) (s .first) (s .second) (omega arith) in
+    omega arith
+
+slice-aggregate-list-line : tie.Need-slice-aggregate-list-line
+slice-aggregate-list-line c = search needs
+
+list-line-requires : tie.Need-list-line-requires
+list-line-requires c κs = search needs
+
+counts-line-requires : tie.Need-counts-line-requires
+counts-line-requires c κs =
+    let s = c .before .before .before .before .before .before .args in
+    let n = c .before .before .before .list-pair .ensures .counted ∙ pair-counts (s .sizes .h) (s .first) (s .second) (omega arith) in
+    omega (arith, ap (λ (l : Listed). l .whole) n, ap (λ (l : Listed). l .least) n)
+
+returns : tie.Need-returns
+returns c = search needs
+
+pub pair-line-spec : {M : Type 1} → statement M
+pair-line-spec =
+    tie.close
+    (tie.spec
+    slice-aggregate-list-pair
+    list-pair-requires
+    slice-aggregate-list-line
+    list-line-requires
+    counts-line-requires
+    returns)

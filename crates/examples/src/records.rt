@@ -1,0 +1,53 @@
+// Records: what is proper, and the order.
+use crate::line;
+use record::Leaf;
+use record::Record;
+use record::Stamp;
+
+fn record_line(text: &[u8], r: Record) {
+    line::name(text);
+    line::number(r.key);
+    line::number(r.value);
+    line::number(r.label.0);
+    line::number(r.stamp.0);
+    line::end();
+}
+
+fn verdict_line(text: &[u8], yes: bool) {
+    line::name(text);
+    line::verdict(yes);
+    line::end();
+}
+
+// N is 4 here, and three requests are finished.
+pub(crate) fn records() {
+    let next = Stamp(3);
+    record_line(b"dummy:", Record::DUMMY);
+    let last_key = Record::proper(18446744073709551614, 0, Leaf(3), Stamp(2));
+    verdict_line(b"key 2^64 - 2 is proper:", last_key.is_proper(4, next));
+    let no_key = Record::proper(18446744073709551615, 0, Leaf(3), Stamp(2));
+    verdict_line(b"key 2^64 - 1 is proper:", no_key.is_proper(4, next));
+    verdict_line(
+        b"key 2^64 - 1 with a label is the dummy:",
+        no_key.is_dummy(),
+    );
+    verdict_line(
+        b"key 2^64 - 1 with a label may stand:",
+        no_key.may_stand(4, next),
+    );
+    verdict_line(b"the dummy may stand:", Record::DUMMY.may_stand(4, next));
+    let label_n = Record::proper(5, 50, Leaf(4), Stamp(2));
+    verdict_line(b"label N is proper:", label_n.is_proper(4, next));
+    let stamp_t = Record::proper(5, 50, Leaf(3), Stamp(3));
+    verdict_line(b"stamp t is proper:", stamp_t.is_proper(4, next));
+    let early = Record::proper(5, 50, Leaf(3), Stamp(0));
+    let late = Record::proper(5, 40, Leaf(1), Stamp(1));
+    record_line(b"equal keys, the smaller is:", late.smaller(early));
+    record_line(
+        b"the last key before the dummy:",
+        Record::DUMMY.smaller(last_key),
+    );
+    let copy = Record::proper(5, 99, Leaf(2), Stamp(0));
+    record_line(b"a tie takes the first:", copy.smaller(early));
+    verdict_line(b"a tie is the same:", copy.same(early));
+}

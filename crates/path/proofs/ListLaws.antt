@@ -1,0 +1,110 @@
+-- The bucket lists: how long they are, how they are laid part by part, and the words moved for them. Assumes nothing.
+use Prim.Native.Nat.{ℕ, suc, _+_, _*_, _-_, _≤_}
+use mathlib.Core.Path.{_≡_, refl, sym, ap, _∙_}
+use mathlib.Core.List.{List, [], _∷_, _++_, map, map-append, append-assoc}
+use native.Mathlib.Omega.{arith}
+use native.Mathlib.Nat.{suc-mul}
+use lib.ListN.{length, take, drop, length-append, length-map}
+use lib.Seq.{take-at, drop-at}
+use borrow.Rule.Slice.PartMut.{putMid, post-is}
+use Rattle.record.specs.declared.Leaf.{Leaf}
+use Rattle.record.specs.declared.Bucket.{Bucket}
+use Rattle.path.specs.declared.list.Listed.{Listed}
+use Rattle.path.specs.Path.{number, pathBucket, siblingOf, upFrom, path}
+use Rattle.path.specs.Layout.{recordWords, bucketWords}
+use Rattle.path.specs.BucketList.{BucketList, pairList, pathList, numbers, laid, counts, pairCounts, pathCounts, sum, wordsMoved, moved}
+use Rattle.path.proofs.Naming.{length-upFrom}
+
+-- how long a path is, from level d on
+pub length-path : (h : ℕ) (q : Leaf) (d : ℕ) → length (path h q d) ≡ suc h - d
+unfolding path
+length-path h q d = length-map (upFrom d (suc h - d)) (pathBucket h q) ∙ length-upFrom d (suc h - d)
+
+pub length-siblings : (h : ℕ) (q : Leaf) (d : ℕ) → length (map siblingOf (path h q d)) ≡ suc h - d
+length-siblings h q d = length-map (path h q d) siblingOf ∙ length-path h q d
+
+pub length-numbers : (l : BucketList) → length (numbers l) ≡ length (l .whole) + length (l .least)
+length-numbers l = length-map (l .whole ++ l .least) number ∙ length-append (l .whole) (l .least)
+
+-- the counts by the height alone
+pub path-counts : (h : ℕ) (q : Leaf) → counts (pathList h q) ≡ pathCounts h
+unfolding pathList
+path-counts h q =
+    let w : length (path h q 1) ≡ h = length-path h q 1 ∙ omega arith in
+    let s : length (map siblingOf (path h q 1)) ≡ h = length-siblings h q 1 ∙ omega arith in
+    λ i. record { whole = w i; least = s i }
+
+pub pair-counts : (h : ℕ) (first second : Leaf) → 1 ≤ h → counts (pairList h first second) ≡ pairCounts h
+unfolding pairList
+pair-counts h f s l =
+    let w : length (path h f 1 ++ path h s 1) ≡ 2 * h =
+    length-append (path h f 1) _ ∙ rw (length-path h f 1, length-path h s 1) (omega arith) in
+    let n : length (map siblingOf (path h f 2) ++ map siblingOf (path h s 2)) ≡ 2 * (h - 1) =
+    length-append (map siblingOf (path h f 2)) _ ∙ rw (length-siblings h f 2, length-siblings h s 2) (omega arith) in
+    λ i. record { whole = w i; least = n i }
+
+pub length-path-numbers : (h : ℕ) (leaf : Leaf) → length (numbers (pathList h leaf)) ≡ h + h
+length-path-numbers h leaf =
+    length-numbers (pathList h leaf) ∙ ap (λ (n : Listed). n .whole + n .least) (path-counts h leaf)
+
+pub length-pair-numbers : (h : ℕ) (first second : Leaf) → 1 ≤ h
+    → length (numbers (pairList h first second)) ≡ h + h + (h - 1) + (h - 1)
+length-pair-numbers h first second some =
+    length-numbers (pairList h first second)
+    ∙ ap (λ (n : Listed). n .whole + n .least) (pair-counts h first second some)
+    ∙ omega arith
+
+-- A list laid part by part: a part that goes from a to e takes its place behind what is done.
+pub next-part : (done ys old : List ℕ) (a e : ℕ) → length done ≡ a → a ≤ e
+    → putMid a (e - a) (done ++ drop a old) ys ≡ (done ++ ys) ++ drop e old
+next-part done ys old a e n l =
+    rw (take-at done (drop a old) a n, drop-at done (drop a old) a n, append-assoc) (ap (λ (r : List ℕ). done ++ (ys ++ r)) (post-is a e old l))
+
+-- the words moved, by the counts
+sum-same : (n : ℕ) (l : List Bucket) → sum (map (λ b. n) l) ≡ length l * n
+unfolding sum
+sum-same n [] = omega arith
+sum-same n (b ∷ l) = rw (sum-same n l, suc-mul) (omega arith)
+
+pub moved-by-counts : (z : ℕ) (l : BucketList) → wordsMoved z l ≡ moved z (counts l)
+unfolding wordsMoved
+moved-by-counts z l = rw (sum-same (2 * bucketWords z) (l .whole), sum-same recordWords (l .least))
+
+-- the parts that make up a list
+module _ (h : ℕ) (leaf : Leaf) (old : List ℕ) where
+  pub path-laid : (a b : List ℕ) → a ≡ map number (path h leaf 1) → b ≡ map number (map siblingOf (path h leaf 1))
+      → putMid h (h + h - h) (a ++ drop h old) b ≡ laid (pathList h leaf) old
+  unfolding pathList
+  path-laid a b ea eb =
+      let la : length a ≡ h = ap length ea ∙ length-map (path h leaf 1) number ∙ length-path h leaf 1 ∙ omega arith in
+      next-part a b old h (h + h) la (omega arith) ∙ rw (length-path-numbers h leaf, ea, eb, map-append)
+
+module _ (h : ℕ) (first second : Leaf) (old : List ℕ) (some : 1 ≤ h) where
+  pub pair-laid : (a b c d : List ℕ) → a ≡ map number (path h first 1) → b ≡ map number (path h second 1)
+      → c ≡ map number (map siblingOf (path h first 2)) → d ≡ map number (map siblingOf (path h second 2))
+      → putMid (h + h + (h - 1)) (h + h + (h - 1) + (h - 1) - (h + h + (h - 1)))
+      (putMid (h + h) (h + h + (h - 1) - (h + h)) (putMid h (h + h - h) (a ++ drop h old) b) c) d
+      ≡ laid (pairList h first second) old
+  unfolding pairList
+  pair-laid a b c d ea eb ec ed =
+      let la : length a ≡ h = ap length ea ∙ length-map (path h first 1) number ∙ length-path h first 1 ∙ omega arith in
+      let lb : length b ≡ h = ap length eb ∙ length-map (path h second 1) number ∙ length-path h second 1 ∙ omega arith in
+      let lc : length c ≡ h - 1 =
+      ap length ec ∙ length-map (map siblingOf (path h first 2)) number ∙ length-siblings h first 2 ∙ omega arith in
+      rw (next-part a b old h (h + h) la (omega arith))
+      (rw
+      (next-part (a ++ b) c old (h + h) (h + h + (h - 1)) (length-append a b ∙ omega arith) (omega arith))
+      (next-part (a ++ b ++ c) d old (h + h + (h - 1)) (h + h + (h - 1) + (h - 1))
+      (length-append (a ++ b) c ∙ rw (length-append a b) (omega arith)) (omega arith)
+      ∙ rw (length-pair-numbers h first second some, ea, eb, ec, ed) (simp (map-append, append-assoc))))
+
+-- ---- the closed formulas
+-- "16h(Z+1) + 8h - 8 for Insert"
+pub pair-moved : (z h : ℕ) (first second : Leaf) → 1 ≤ h
+    → wordsMoved z (pairList h first second) ≡ 16 * h * (z + 1) + 8 * h - 8
+pair-moved z h first second l =
+    moved-by-counts z (pairList h first second) ∙ ap (moved z) (pair-counts h first second l) ∙ omega arith
+
+-- "and 4h(2Z+3) for the others"
+pub path-moved : (z h : ℕ) (leaf : Leaf) → wordsMoved z (pathList h leaf) ≡ 4 * h * (2 * z + 3)
+path-moved z h leaf = moved-by-counts z (pathList h leaf) ∙ ap (moved z) (path-counts h leaf) ∙ omega arith

@@ -1,0 +1,83 @@
+use borrow.Author.Needs.{needs}
+use native.Mathlib.Omega.{arith}
+use Prim.Native.Nat.{_+_}
+use mathlib.Core.Path.{_≡_, sym, _∙_}
+use lib.ListN.{length, drop, length-append, length-drop}
+use lib.Seq.{length-take-le}
+use borrow.Rule.Slice.PartMut.{mid-len}
+use Rattle.path.proofs.ListLaws.{path-counts, length-path-numbers, path-laid}
+use Rattle.path.proofs.sizes.Sizes.list_path.Statement.{statement}
+use Rattle.path.proofs.sizes.Sizes.list_path.Tie as tie
+use Rattle.path.proofs.sizes.Sizes.list_path.Reads as reads
+use Rattle.path.proofs.sizes.Sizes.list_path.Lts as lts
+use Rattle.path.proofs.sizes.Sizes.name_path.Reads as name-path-reads
+use Rattle.path.proofs.sizes.Sizes.name_siblings.Reads as name-siblings-reads
+use Rattle.path.proofs.sizes.Sizes.path_counts.Reads as path-counts-reads
+
+add-all : tie.Need-add-all
+add-all c = search needs
+
+slice-relend-prefix-name-path : tie.Need-slice-relend-prefix-name-path
+slice-relend-prefix-name-path c =
+    let s = c .before .args in
+    omega (arith, length-path-numbers (s .self .h) (s .leaf))
+
+slice-aggregate-name-path : tie.Need-slice-aggregate-name-path
+slice-aggregate-name-path c =
+    let s = c .before .before .args in
+    let n = length-path-numbers (s .self .h) (s .leaf) in
+    sym (length-take-le (s .self .h) (s .list .now) (omega arith))
+
+name-path-requires : tie.Need-name-path-requires
+name-path-requires c κs =
+    let s = c .before .before .args in
+    let n = length-path-numbers (s .self .h) (s .leaf) in
+    omega (arith, length-take-le (s .self .h) (s .list .now) (omega arith))
+
+mul-name-siblings : tie.Need-mul-name-siblings
+mul-name-siblings c = search needs
+
+sub-name-siblings : tie.Need-sub-name-siblings
+sub-name-siblings c = search needs
+
+part-name-siblings-start : tie.Need-part-name-siblings-start
+part-name-siblings-start c = search needs
+
+part-name-siblings-end : tie.Need-part-name-siblings-end
+part-name-siblings-end c =
+    let s = c .before .before .before .before .before .args in
+    omega (arith, length-path-numbers (s .self .h) (s .leaf))
+
+name-siblings-requires : tie.Need-name-siblings-requires
+name-siblings-requires c κs = search needs
+
+path-counts-requires : tie.Need-path-counts-requires
+path-counts-requires c κs = search needs
+
+same-length : tie.Need-same-length
+same-length c = search needs
+
+returns : tie.Need-returns
+returns c =
+    let s = c .before .before .before .before .before .before .before .before .before .before .args in
+    record {
+      places = path-laid (s .self .h) (s .leaf) (s .list .now) _ _ (c .before .before .before .before .before .before .before .name-path .ensures) (c .before .before .before .name-siblings .ensures);
+      counted = c .path-counts .ensures ∙ sym (path-counts (s .self .h) (s .leaf));
+    }
+
+pub list-path-spec : {M : Type 1} → statement M
+list-path-spec =
+    tie.close
+    (tie.spec
+    add-all
+    slice-relend-prefix-name-path
+    slice-aggregate-name-path
+    name-path-requires
+    mul-name-siblings
+    sub-name-siblings
+    part-name-siblings-start
+    part-name-siblings-end
+    name-siblings-requires
+    path-counts-requires
+    same-length
+    returns)

@@ -1,0 +1,68 @@
+use borrow.Author.Needs.{needs}
+use native.Mathlib.Omega.{arith}
+use Prim.Native.Nat.{ℕ, suc, _+_, _-_}
+use mathlib.Core.Path.{_≡_, sym, ap, _∙_}
+use lib.ListN.{length}
+use Rattle.path.specs.Path.{pathBucket, number}
+use Rattle.path.proofs.Naming.{Naming, naming-starts, naming-turns, naming-ends, path-named}
+use Rattle.path.proofs.sizes.Sizes.name_path.Statement.{statement}
+use Rattle.path.proofs.sizes.Sizes.name_path.Tie as tie
+use Rattle.path.proofs.sizes.Sizes.name_path.Reads as reads
+use Rattle.path.proofs.sizes.Sizes.name_path.Lts as lts
+use Rattle.path.proofs.sizes.Sizes.bucket_at.Reads as bucket-at-reads
+
+abbrev Inv-loop : tie.InvT-loop
+Inv-loop self leaf from list₀ level₀ i₀ list level i = Naming (λ d. number (pathBucket (self .h) leaf d)) from list₀ list i level
+
+abbrev μ-loop : tie.MeasureT-loop
+μ-loop self leaf from list₀ level₀ i₀ list level i = length list₀ - i
+
+loop-holds : tie.Need-loop-holds Inv-loop μ-loop
+loop-holds c = naming-starts _ _ _
+
+bucket-at-requires : tie.Need-bucket-at-requires Inv-loop μ-loop
+bucket-at-requires c κs = search needs
+
+mul-list : tie.Need-mul-list Inv-loop μ-loop
+mul-list c = search needs
+
+slice-write-list : tie.Need-slice-write-list Inv-loop μ-loop
+slice-write-list c = search needs
+
+add-i : tie.Need-add-i Inv-loop μ-loop
+add-i c = search needs
+
+add-level : tie.Need-add-level Inv-loop μ-loop
+add-level c = search needs
+
+loop-less : tie.Need-loop-less Inv-loop μ-loop
+loop-less c = search needs
+
+loop-again : tie.Need-loop-again Inv-loop μ-loop
+loop-again c =
+    naming-turns _ _ _ _ _ _ _ (c .before .before .loop .inv) (c .before .loop-test .taken) (ap number (c .bucket-at .ensures))
+
+same-length : tie.Need-same-length Inv-loop μ-loop
+same-length c = c .before .loop .inv .room
+
+returns : tie.Need-returns Inv-loop μ-loop
+returns c =
+    let s = c .before .before .before .args in
+    naming-ends _ _ _ _ _ _ (suc (s .self .h) - s .from) (c .before .loop .inv) (c .loop-test .left) (omega arith) ∙ path-named _ _ _
+
+pub name-path-spec : {M : Type 1} → statement M
+name-path-spec =
+    tie.close
+    (tie.spec
+    Inv-loop
+    μ-loop
+    loop-holds
+    bucket-at-requires
+    mul-list
+    slice-write-list
+    add-i
+    add-level
+    loop-less
+    loop-again
+    same-length
+    returns)

@@ -1,0 +1,73 @@
+use borrow.Author.Needs.{needs}
+use native.Mathlib.Omega.{arith}
+use Prim.Native.Nat.{ℕ, suc, _+_, _-_}
+use mathlib.Core.Path.{_≡_, sym, ap, _∙_}
+use lib.ListN.{length}
+use Rattle.path.specs.Path.{pathBucket, siblingOf, number}
+use Rattle.path.proofs.Naming.{Naming, naming-starts, naming-turns, naming-ends, siblings-named}
+use Rattle.path.proofs.sizes.Sizes.name_siblings.Statement.{statement}
+use Rattle.path.proofs.sizes.Sizes.name_siblings.Tie as tie
+use Rattle.path.proofs.sizes.Sizes.name_siblings.Reads as reads
+use Rattle.path.proofs.sizes.Sizes.name_siblings.Lts as lts
+use Rattle.path.proofs.rule.sibling.Reads as sibling-reads
+use Rattle.path.proofs.sizes.Sizes.bucket_at.Reads as bucket-at-reads
+
+abbrev Inv-loop : tie.InvT-loop
+Inv-loop self leaf from list₀ level₀ i₀ list level i = Naming (λ d. number (siblingOf (pathBucket (self .h) leaf d))) from list₀ list i level
+
+abbrev μ-loop : tie.MeasureT-loop
+μ-loop self leaf from list₀ level₀ i₀ list level i = length list₀ - i
+
+loop-holds : tie.Need-loop-holds Inv-loop μ-loop
+loop-holds c = naming-starts _ _ _
+
+bucket-at-requires : tie.Need-bucket-at-requires Inv-loop μ-loop
+bucket-at-requires c κs = search needs
+
+sibling-requires : tie.Need-sibling-requires Inv-loop μ-loop
+sibling-requires c κs = search needs
+
+mul-list : tie.Need-mul-list Inv-loop μ-loop
+mul-list c = search needs
+
+slice-write-list : tie.Need-slice-write-list Inv-loop μ-loop
+slice-write-list c = search needs
+
+add-i : tie.Need-add-i Inv-loop μ-loop
+add-i c = search needs
+
+add-level : tie.Need-add-level Inv-loop μ-loop
+add-level c = search needs
+
+loop-less : tie.Need-loop-less Inv-loop μ-loop
+loop-less c = search needs
+
+loop-again : tie.Need-loop-again Inv-loop μ-loop
+loop-again c =
+    naming-turns _ _ _ _ _ _ _ (c .before .before .before .loop .inv) (c .before .before .loop-test .taken) (ap number (c .sibling .ensures ∙ ap siblingOf (c .before .bucket-at .ensures)))
+
+same-length : tie.Need-same-length Inv-loop μ-loop
+same-length c = c .before .loop .inv .room
+
+returns : tie.Need-returns Inv-loop μ-loop
+returns c =
+    let s = c .before .before .before .args in
+    naming-ends _ _ _ _ _ _ (suc (s .self .h) - s .from) (c .before .loop .inv) (c .loop-test .left) (omega arith) ∙ siblings-named _ _ _
+
+pub name-siblings-spec : {M : Type 1} → statement M
+name-siblings-spec =
+    tie.close
+    (tie.spec
+    Inv-loop
+    μ-loop
+    loop-holds
+    bucket-at-requires
+    sibling-requires
+    mul-list
+    slice-write-list
+    add-i
+    add-level
+    loop-less
+    loop-again
+    same-length
+    returns)

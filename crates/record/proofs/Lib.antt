@@ -1,0 +1,4 @@
+-- Laws of records that this crate's users cite: what may stand, the order, and words.
+pub mod StandingLaws
+pub mod OrderLaws
+pub mod WordsLaws
