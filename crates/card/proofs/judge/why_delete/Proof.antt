@@ -1,0 +1,42 @@
+use borrow.Author.Needs.{needs}
+use native.Mathlib.Omega.{arith}
+use mathlib.Core.Path.{sym, ap, _∙_}
+use mathlib.Core.Bool.{not}
+use borrow.Author.Tests.{eq-eqb, ne-eqb, le-leb, lt-leb}
+use Rattle.refusal.specs.Refusal.{firstGiven}
+use Rattle.card.specs.Tables.{deleteRows}
+use Rattle.card.proofs.judge.why_delete.Statement.{statement}
+use Rattle.card.proofs.judge.why_delete.Tie as tie
+use Rattle.card.proofs.judge.why_delete.Reads as reads
+use Rattle.card.proofs.judge.why_delete.Lts as lts
+use Rattle.path.proofs.leaves.Reads as leaves-reads
+use Rattle.record.proofs.Stamp.is_known.Reads as is-known-reads
+
+returns : tie.Need-returns
+unfolding firstGiven deleteRows
+returns c = rw (eq-eqb _ _ (c .if1 .taken))
+
+leaves-requires : tie.Need-leaves-requires
+leaves-requires c κs = search needs
+
+returns-2 : tie.Need-returns-2
+unfolding firstGiven deleteRows
+returns-2 c =
+    rw (ne-eqb _ _ (c .before .before .before .if1 .left), ← c .before .before .leaves .ensures, le-leb _ _ (c .if2 .taken))
+
+is-known-requires : tie.Need-is-known-requires
+is-known-requires c κs = search needs
+
+returns-3 : tie.Need-returns-3
+unfolding firstGiven deleteRows
+returns-3 c =
+    rw (ne-eqb _ _ (c .before .before .before .before .before .if1 .left), ← c .before .before .before .before .leaves .ensures, lt-leb _ _ (c .before .before .if2 .left), ap not (sym (c .before .is-known .ensures)) ∙ c .if3 .taken)
+
+returns-4 : tie.Need-returns-4
+unfolding firstGiven deleteRows
+returns-4 c =
+    rw (ne-eqb _ _ (c .before .before .before .before .before .if1 .left), ← c .before .before .before .before .leaves .ensures, lt-leb _ _ (c .before .before .if2 .left), ap not (sym (c .before .is-known .ensures)) ∙ c .if3 .left)
+
+pub why-delete-spec : {M : Type 1} → statement M
+why-delete-spec =
+    tie.close (tie.spec returns leaves-requires returns-2 is-known-requires returns-3 returns-4)

@@ -1,0 +1,40 @@
+-- What an answer says: document 01, "Any refusal returns its number with every other field 0". Assumes nothing.
+use Prim.Native.Nat.{ℕ}
+use mathlib.Core.Bool.{cond}
+use mathlib.Core.List.{List, [], _∷_}
+use mathlib.Core.Path.{_≡_}
+use lib.Dec.{eqb}
+use Rattle.card.specs.declared.Card.{Card}
+use Rattle.card.specs.declared.Answer.{Answer}
+use Rattle.card.specs.declared.Answer.the-variants.{Started, Listed, Least, Withdrawn, Refused}
+use Rattle.card.specs.declared.Done.{Done}
+
+-- the paper's number of each case: 0, or the refusal's
+abbrev pub numberOf : Answer → ℕ
+numberOf Started = 0
+numberOf (Listed whole least) = 0
+numberOf (Least r) = 0
+numberOf Withdrawn = 0
+numberOf (Refused number) = number
+
+-- and its values: for a begin how many buckets are whole and how many least-record only; for FindMin key, value, label,
+-- stamp and the words moved
+abbrev pub valuesOf : Answer → List ℕ
+valuesOf Started = []
+valuesOf (Listed whole least) = whole ∷ least ∷ []
+valuesOf (Least r) = r .key ∷ r .value ∷ r .label .0 ∷ r .stamp .0 ∷ 0 ∷ []
+valuesOf Withdrawn = []
+valuesOf (Refused number) = []
+
+-- a refused call hands back the card as it came, and its number alone
+abbrev pub refused : Card → ℕ → Done
+refused k number = record { card = k; answer = Refused number }
+
+-- what a call comes to: refused with the number, or done
+unfoldable pub orRefused : Card → ℕ → Done → Done
+orRefused k number done = cond (eqb number 0) done (refused k number)
+
+-- the promise of a call whose refusal is `number`, 0 for none
+pub record Answered (k : Card) (number : ℕ) (done answer : Done) : Type 0 where
+  pub whole : answer ≡ orRefused k number done
+  pub numbered : numberOf (answer .answer) ≡ number

@@ -1,0 +1,50 @@
+// The card: document 01, "The card holds sizes, the count t of finished requests, the count c of live events, the root's
+// slots, the root's least record and the waiting request, if any."
+//
+// A card is a value that goes in with a call and comes out of it. Every call answers, whatever numbers the card holds.
+// Stands on `record`, `path`, `refusal`, `root`.
+mod judge;
+
+use path::Sizes;
+use record::Leaf;
+use record::Record;
+use record::Stamp;
+
+pub enum Waiting {
+    Nothing,
+    Insert {
+        key: u64,
+        value: u64,
+        label: Leaf,
+        first: Leaf,
+        second: Leaf,
+    },
+    Extract,
+    Delete {
+        label: Leaf,
+        stamp: Stamp,
+    },
+}
+
+pub struct Card {
+    pub sizes: Sizes,
+    pub t: u64,
+    pub c: u64,
+    pub root: [Record; 64],
+    pub least: Record,
+    pub waiting: Waiting,
+}
+
+pub enum Answer {
+    Started,
+    Listed { whole: usize, least: usize },
+    Least(Record),
+    Withdrawn,
+    Refused(u64),
+}
+
+// What a call hands back.
+pub struct Done {
+    pub card: Card,
+    pub answer: Answer,
+}

@@ -1,0 +1,2 @@
+-- The laws of the root's slots.
+pub mod Slots

@@ -1,0 +1,67 @@
+use borrow.Author.Needs.{needs}
+use native.Mathlib.Omega.{arith}
+use Prim.Native.Nat.{_≤_, _-_}
+use mathlib.Core.Bool.{true}
+use mathlib.Core.Path.{_≡_, sym, ap, _∙_}
+use borrow.Author.Tests.{not-true, not-false}
+use lib.ListN.{take}
+use Rattle.record.specs.Standing.{isDummy}
+use Rattle.record.specs.Words.{records}
+use Rattle.record.specs.Many.{every}
+use Rattle.root.proofs.Slots.{pass-starts, pass-turns, pass-fails, pass-ends}
+use Rattle.root.proofs.all_dummies.Statement.{statement}
+use Rattle.root.proofs.all_dummies.Tie as tie
+use Rattle.root.proofs.all_dummies.Reads as reads
+use Rattle.root.proofs.all_dummies.Lts as lts
+use Rattle.record.proofs.Record.is_dummy.Reads as is-dummy-reads
+use Rattle.record.proofs.Record.read.Reads as read-reads
+
+abbrev Inv-loop : tie.InvT-loop
+Inv-loop places n i₀ i = (i ≤ n) × (every isDummy (take i (records places)) ≡ true)
+
+abbrev μ-loop : tie.MeasureT-loop
+μ-loop places n i₀ i = n - i
+
+loop-holds : tie.Need-loop-holds Inv-loop μ-loop
+loop-holds c = (omega arith, pass-starts (c .before .args .places .now) _ (c .before .pre) isDummy)
+
+read-requires : tie.Need-read-requires Inv-loop μ-loop
+read-requires c κs = search needs
+
+is-dummy-requires : tie.Need-is-dummy-requires Inv-loop μ-loop
+is-dummy-requires c κs = search needs
+
+returns : tie.Need-returns Inv-loop μ-loop
+returns c =
+    let t = sym (ap isDummy (c .before .before .read .ensures)) ∙ sym (c .before .is-dummy .ensures) ∙ not-true _ (c .if1 .taken) in
+    sym (pass-fails _ _ (c .before .before .before .before .before .before .pre) isDummy (c .before .before .before .before .loop .i) (omega arith) t)
+
+add-i : tie.Need-add-i Inv-loop μ-loop
+add-i c = search needs
+
+loop-less : tie.Need-loop-less Inv-loop μ-loop
+loop-less c = search needs
+
+loop-again : tie.Need-loop-again Inv-loop μ-loop
+loop-again c =
+    let t = sym (ap isDummy (c .before .before .read .ensures)) ∙ sym (c .before .is-dummy .ensures) ∙ not-false _ (c .if1 .left) in
+    (omega arith, pass-turns _ _ (c .before .before .before .before .before .before .pre) isDummy (c .before .before .before .before .loop .i) (omega arith) (c .before .before .before .before .loop .inv .1) t)
+
+returns-2 : tie.Need-returns-2 Inv-loop μ-loop
+returns-2 c =
+    sym (pass-ends _ _ (c .before .before .before .pre) isDummy (c .before .loop .i) (omega arith) (c .before .loop .inv .1))
+
+pub all-dummies-spec : {M : Type 1} → statement M
+all-dummies-spec =
+    tie.close
+    (tie.spec
+    Inv-loop
+    μ-loop
+    loop-holds
+    read-requires
+    is-dummy-requires
+    returns
+    add-i
+    loop-less
+    loop-again
+    returns-2)

@@ -1,0 +1,2 @@
+-- What is asked of the root's slots.
+pub mod Root

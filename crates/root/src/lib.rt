@@ -1,0 +1,72 @@
+// The root's slots, as a lent slice of words, four to a slot: what BadCard and Overflow ask of them (document 01,
+// "Refusal numbers"). Stands on `record`.
+ghost use mathlib.Core.Path.{_≡_};
+ghost use mathlib.Core.Bool.{not};
+ghost use Prim.Native.Nat.{_*_};
+ghost use lib.ListN.{length};
+ghost use Rattle.record.specs.Standing.{isDummy};
+ghost use Rattle.record.specs.Many.{every};
+ghost use Rattle.record.specs.Words.{records};
+ghost use Rattle.root.specs.Root.{slotsFine};
+use record::Record;
+use record::Stamp;
+
+// For crates above: one pass over n slots. Each may stand, no record comes before `least`, and at most `live` are records.
+pub fn slots_fine(
+    slots: &[u64],
+    n: usize,
+    leaves: u64,
+    next: Stamp,
+    least: Record,
+    live: u64,
+) -> bool
+    requires { ⌜ length (now slots) ≡ 4 * n ⌝ }
+    ensures { λ r. ⌜ r ≡ slotsFine leaves next least live (records (now (slots .entry))) ⌝ }
+{
+    let mut count: u64 = 0;
+    let mut i = 0;
+    while i < n {
+        let x = Record::read(slots, i);
+        if !x.is_dummy() {
+            if !x.is_proper(leaves, next) {
+                return false;
+            }
+            if !least.no_later(x) {
+                return false;
+            }
+            count += 1;
+        }
+        i += 1;
+    }
+    count <= live
+}
+
+// For crates above: whether all n places are the dummy.
+pub fn all_dummies(places: &[u64], n: usize) -> bool
+    requires { ⌜ length (now places) ≡ 4 * n ⌝ }
+    ensures { λ r. ⌜ r ≡ every isDummy (records (now (places .entry))) ⌝ }
+{
+    let mut i = 0;
+    while i < n {
+        if !Record::read(places, i).is_dummy() {
+            return false;
+        }
+        i += 1;
+    }
+    true
+}
+
+// For crates above: whether no slot is the dummy.
+pub fn all_real(slots: &[u64], n: usize) -> bool
+    requires { ⌜ length (now slots) ≡ 4 * n ⌝ }
+    ensures { λ r. ⌜ r ≡ every (λ x. not (isDummy x)) (records (now (slots .entry))) ⌝ }
+{
+    let mut i = 0;
+    while i < n {
+        if Record::read(slots, i).is_dummy() {
+            return false;
+        }
+        i += 1;
+    }
+    true
+}
