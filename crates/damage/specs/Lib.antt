@@ -1,0 +1,2 @@
+-- Damaged, clause by clause.
+pub mod Damage

@@ -1,0 +1,1 @@
+// The scratch of one way.
