@@ -2,4 +2,4 @@
 pub mod StandingLaws
 pub mod OrderLaws
 pub mod WordsLaws
-pub mod PlacesLaws
+pub mod ManyLaws
