@@ -27,10 +27,12 @@ is-dummy-requires c κs = search needs
 
 returns : tie.Need-returns Inv-loop μ-loop
 returns c =
-    let s = c .before .before .before .before .before .before .before .before .before .args in
+    let turn = c .before .before .before .before .before .before .before in
+    let s = turn .before .before .args in
+    let x = c .before .before .before .before .before .read in
     let real = sym (c .before .is-dummy .ensures) ∙ not-true _ (c .if2 .taken) in
-    let own = rw (c .before .before .before .before .before .read .ensures) at (bears-own (s .stamp) (c .before .before .before .before .before .read .result) real (c .before .before .if1 .taken)) in
-    borne-found (s .w .now) (s .stamp) (c .before .before .before .before .before .before .before .loop .i) (omega arith) own ∙ sym (c .before .before .before .before .before .before .before .loop .inv)
+    let own = rw (x .ensures) at (bears-own (s .stamp) (x .result) real (c .before .before .if1 .taken)) in
+    borne-found (s .w .now) (s .stamp) (turn .loop .i) (omega arith) own ∙ sym (turn .loop .inv)
 
 add-i : tie.Need-add-i Inv-loop μ-loop
 add-i c = search needs

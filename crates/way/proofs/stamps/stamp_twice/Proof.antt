@@ -35,10 +35,11 @@ is-borne-requires c κs = search needs
 
 returns : tie.Need-returns Inv-loop μ-loop
 returns c =
-    let at = c .before .before .before .before .read .ensures in
-    let real = rw at at (sym (c .before .before .before .is-dummy .ensures) ∙ not-true _ (c .before .before .if1 .taken)) in
-    let again = rw at at (sym (c .before .is-borne .ensures) ∙ c .if2 .taken) in
-    twice-found (c .before .before .before .before .before .before .before .before .args .w .now) (c .before .before .before .before .before .before .loop .i) (omega arith) real again ∙ sym (c .before .before .before .before .before .before .loop .inv)
+    let turn = c .before .before .before .before .before .before in
+    let read = c .before .before .before .before .read .ensures in
+    let real = rw read at (sym (c .before .before .before .is-dummy .ensures) ∙ not-true _ (c .before .before .if1 .taken)) in
+    let again = rw read at (sym (c .before .is-borne .ensures) ∙ c .if2 .taken) in
+    twice-found (turn .before .before .args .w .now) (turn .loop .i) (omega arith) real again ∙ sym (turn .loop .inv)
 
 add-i : tie.Need-add-i Inv-loop μ-loop
 add-i c = search needs
@@ -50,10 +51,10 @@ loop-again : tie.Need-loop-again Inv-loop μ-loop
 loop-again c =
     let ws = c .before .before .before .before .before .before .args .w .now in
     let i = c .before .before .before .before .loop .i in
-    let at = c .before .before .read .ensures in
+    let read = c .before .before .read .ensures in
     c .before .before .before .before .loop .inv
-    ∙ ⊎-elim (λ w. twice-turns ws i (omega arith) (rw at at (sym (w .1 .ensures) ∙ w .2 .left)))
-    (λ w. twice-skips ws i (omega arith) (rw at at (sym (c .before .is-dummy .ensures) ∙ not-false _ (w .left)))) (c .if1 .came)
+    ∙ ⊎-elim (λ w. twice-turns ws i (omega arith) (rw read at (sym (w .1 .ensures) ∙ w .2 .left)))
+    (λ w. twice-skips ws i (omega arith) (rw read at (sym (c .before .is-dummy .ensures) ∙ not-false _ (w .left)))) (c .if1 .came)
 
 returns-2 : tie.Need-returns-2 Inv-loop μ-loop
 returns-2 c = twice-ends _ _ (c .loop-test .left) ∙ sym (c .before .loop .inv)

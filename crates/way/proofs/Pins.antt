@@ -1,0 +1,68 @@
+-- Small ways worked out: what the definitions of eviction, of least records and of stamps that stand twice come to. A
+-- wrong order of the levels, a place left with its record or a dummy taken for a record changes one of these.
+-- Assumes nothing.
+use Prim.Native.Nat.{ℕ, zero, suc}
+use mathlib.Core.Bool.{true, false}
+use mathlib.Core.List.{[], _∷_}
+use mathlib.Core.Path.{_≡_, refl}
+use Rattle.record.specs.declared.Leaf.{Leaf}
+use Rattle.record.specs.declared.Record.{Record}
+use Rattle.record.specs.Many.{every, bears, stampTwice}
+use Rattle.record.specs.Order.{noLater, smallerBy, smallest, smallestBy}
+use Rattle.record.specs.Standing.{dummy, isDummy, same}
+use Rattle.record.specs.Words.{record4}
+use Rattle.path.specs.Path.{bucket, pathBucket, holds, upFrom}
+use Rattle.way.specs.Evict.{seek, fits, movedTo, pull, pulls, evictUp, evict}
+use Rattle.way.specs.Least.{slotsAt, inOrder, kids, mended}
+
+-- leaf 0 of a tree of height 2, with one slot in the root and one in each bucket
+leaf : Leaf
+leaf = record { 0 = 0 }
+
+-- key 7 with label 0, and key 5 with label 1, whose paths part at the leaf
+a : Record
+a = record4 7 70 0 0
+
+c : Record
+c = record4 5 50 1 1
+
+-- the record that fits goes to the leaf's bucket, and the other moves into the place that it left
+evicts : evict 2 1 1 leaf (c ∷ a ∷ dummy ∷ []) ≡ dummy ∷ c ∷ a ∷ []
+unfolding leaf a c seek fits movedTo pull pulls evictUp evict isDummy same holds pathBucket
+evicts = refl
+
+-- nothing moves where no slot is the dummy
+full : evict 2 1 1 leaf (a ∷ c ∷ a ∷ []) ≡ a ∷ c ∷ a ∷ []
+unfolding leaf a c seek fits movedTo pull pulls evictUp evict isDummy same holds pathBucket
+full = refl
+
+-- the least records of that path, the sibling's being `c` at level 1 and the dummy at level 2; the slots hold `a` in the
+-- leaf's bucket alone
+beside : ℕ → Record
+beside zero = dummy
+beside (suc zero) = c
+beside (suc (suc d)) = dummy
+
+least :
+    mended 2 leaf (slotsAt 1 1 (dummy ∷ dummy ∷ a ∷ [])) beside
+    ≡ record { least = a; slots = dummy ∷ [] } ∷ record { least = a; slots = a ∷ [] } ∷ []
+unfolding leaf a c beside slotsAt kids inOrder smallestBy smallerBy noLater pathBucket upFrom
+least = refl
+
+roots-children : kids 2 leaf (slotsAt 1 1 (dummy ∷ dummy ∷ a ∷ [])) beside 2 ≡ a ∷ c ∷ []
+unfolding leaf a c beside slotsAt kids inOrder smallestBy smallerBy noLater pathBucket
+roots-children = refl
+
+-- a tie takes the lower child: of buckets 2 and 3, whose least records differ in value alone, the one of bucket 2
+tie : smallest (inOrder (bucket 3) (record4 7 70 0 0) (record4 7 71 0 0)) ≡ record4 7 71 0 0
+unfolding inOrder smallestBy smallerBy noLater
+tie = refl
+
+-- dummies have stamp 0, and so has `a`: they do not count
+dummies : stampTwice (dummy ∷ a ∷ dummy ∷ c ∷ []) ≡ false
+unfolding a c stampTwice every bears isDummy same
+dummies = refl
+
+twice : stampTwice (dummy ∷ a ∷ c ∷ a ∷ []) ≡ true
+unfolding a c stampTwice every bears isDummy same
+twice = refl
