@@ -3,3 +3,4 @@ pub mod StandingLaws
 pub mod OrderLaws
 pub mod WordsLaws
 pub mod ManyLaws
+pub mod PlacesLaws

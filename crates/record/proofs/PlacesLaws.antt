@@ -1,35 +1,18 @@
 -- Some records at once: what a loop over them knows, place by place. Assumes nothing.
-use Prim.Native.Nat.{ℕ, zero, suc, _+_, _≤_, _<_}
-use mathlib.Core.Bool.{Bool, true, false, cond, not, _&&_, _||_, and-true, and-false, and-eq-true-iff}
-use mathlib.Core.List.{List, [], _∷_, _++_, List·Memᴰ, List·Memᴰ·head, List·Memᴰ·tail}
-use mathlib.Core.Path.{_≡_, refl, sym, ap, _∙_}
+use Prim.Native.Nat.{ℕ, suc, _+_, _≤_, _<_}
+use mathlib.Core.Bool.{Bool, true, false, cond, _&&_, and-true, and-false}
+use mathlib.Core.List.{List, [], _∷_, _++_}
+use mathlib.Core.Path.{_≡_}
 use native.Mathlib.Omega.{arith}
 use native.Mathlib.Numerals.{add-one}
-use lib.ListN.{length, getD, take, drop, take-append-drop}
+use lib.ListN.{length, getD, take, take-append-drop}
 use lib.Seq.{take-suc, take-all}
 use Rattle.record.specs.declared.Record.{Record}
 use Rattle.record.specs.Standing.{isDummy}
 use Rattle.record.specs.Many.{every, reals}
+use Rattle.record.proofs.ManyLaws.{every-append}
 
 module _ {A : Type 0} (f : A → Bool) where
-  pub every-append : (xs ys : List A) → every f (xs ++ ys) ≡ (every f xs && every f ys)
-  unfolding every
-  every-append [] ys = refl
-  every-append (x ∷ xs) ys = elim (f x) as (λ b. (b && every f (xs ++ ys)) ≡ ((b && every f xs) && every f ys)) [
-    | true ↦ every-append xs ys
-    | false ↦ refl
-  ]
-
-  pub every-member : {x : A} {xs : List A} → every f xs ≡ true → List·Memᴰ x xs → f x ≡ true
-  unfolding every
-  every-member {x} h (List·Memᴰ·head e) = let (a, b) = simp and-eq-true-iff at h in rw e a
-  every-member {x} h (List·Memᴰ·tail m) = let (a, b) = simp and-eq-true-iff at h in every-member b m
-
-  pub member-every : (xs : List A) → ((x : A) → List·Memᴰ x xs → f x ≡ true) → every f xs ≡ true
-  unfolding every
-  member-every [] h = refl
-  member-every (x ∷ xs) h = rw (h x (List·Memᴰ·head refl)) (member-every xs (λ y m. h y (List·Memᴰ·tail m)))
-
   module _ (l : List A) (i : ℕ) (d : A) (h : i < length l) where
     every-split : every f (take (i + 1) l) ≡ (every f (take i l) && f (getD l i d))
     unfolding every

@@ -11,10 +11,6 @@ use Rattle.record.specs.Many.{every}
 use Rattle.root.proofs.Slots.{pass-starts, pass-turns, pass-fails, pass-ends}
 use Rattle.root.proofs.all_dummies.Statement.{statement}
 use Rattle.root.proofs.all_dummies.Tie as tie
-use Rattle.root.proofs.all_dummies.Reads as reads
-use Rattle.root.proofs.all_dummies.Lts as lts
-use Rattle.record.proofs.Record.is_dummy.Reads as is-dummy-reads
-use Rattle.record.proofs.Record.read.Reads as read-reads
 
 abbrev Inv-loop : tie.InvT-loop
 Inv-loop places n i₀ i = (i ≤ n) × (every isDummy (take i (records places)) ≡ true)

@@ -1,22 +1,14 @@
 use borrow.Author.Needs.{needs}
 use native.Mathlib.Omega.{arith}
-use Prim.Native.Nat.{_-_, _*_, _+_}
-use mathlib.Core.Bool.{true, false}
+use Prim.Native.Nat.{_-_}
 use mathlib.Core.Logic.{⊎-elim}
-use mathlib.Core.Path.{_≡_, sym, ap, _∙_}
+use mathlib.Core.Path.{sym, ap, _∙_}
 use borrow.Author.Tests.{not-true, not-false}
-use lib.ListN.{length}
 use Rattle.record.specs.Standing.{isDummy, isProper}
 use Rattle.record.specs.Order.{noLater}
 use Rattle.root.proofs.Slots.{Fine, fine-starts, fine-dummy, fine-record, strange-place, earlier-place, fine-ends}
 use Rattle.root.proofs.slots_fine.Statement.{statement}
 use Rattle.root.proofs.slots_fine.Tie as tie
-use Rattle.root.proofs.slots_fine.Reads as reads
-use Rattle.root.proofs.slots_fine.Lts as lts
-use Rattle.record.proofs.Record.is_dummy.Reads as is-dummy-reads
-use Rattle.record.proofs.Record.is_proper.Reads as is-proper-reads
-use Rattle.record.proofs.Record.no_later.Reads as no-later-reads
-use Rattle.record.proofs.Record.read.Reads as read-reads
 
 abbrev Inv-loop : tie.InvT-loop
 Inv-loop slots n leaves next least live count₀ i₀ count i = Fine slots n leaves next least i count

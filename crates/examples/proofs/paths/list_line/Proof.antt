@@ -1,14 +1,8 @@
 use borrow.Author.Needs.{needs}
-use native.Mathlib.Omega.{arith}
 use Prim.Native.Nat.{_≤_, _-_}
 use lib.ListN.{length}
 use Rattle.examples.proofs.paths.list_line.Statement.{statement}
 use Rattle.examples.proofs.paths.list_line.Tie as tie
-use Rattle.examples.proofs.paths.list_line.Reads as reads
-use Rattle.examples.proofs.paths.list_line.Lts as lts
-use Rattle.examples.proofs.line.end.Reads as end-reads
-use Rattle.examples.proofs.line.name.Reads as name-reads
-use Rattle.examples.proofs.line.number.Reads as number-reads
 
 abbrev Inv-loop : tie.InvT-loop
 Inv-loop text list i₀ i = i ≤ length list

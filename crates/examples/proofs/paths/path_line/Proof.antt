@@ -1,15 +1,10 @@
 use borrow.Author.Needs.{needs}
 use native.Mathlib.Omega.{arith}
-use mathlib.Core.Path.{_≡_, _∙_, ap}
+use mathlib.Core.Path.{_∙_, ap}
 use Rattle.path.specs.declared.list.Listed.{Listed}
 use Rattle.path.proofs.ListLaws.{path-counts, length-path-numbers}
 use Rattle.examples.proofs.paths.path_line.Statement.{statement}
 use Rattle.examples.proofs.paths.path_line.Tie as tie
-use Rattle.examples.proofs.paths.path_line.Reads as reads
-use Rattle.examples.proofs.paths.path_line.Lts as lts
-use Rattle.examples.proofs.paths.counts_line.Reads as counts-line-reads
-use Rattle.examples.proofs.paths.list_line.Reads as list-line-reads
-use Rattle.path.proofs.sizes.Sizes.list_path.Reads as list-path-reads
 
 slice-aggregate-list-path : tie.Need-slice-aggregate-list-path
 slice-aggregate-list-path c = search needs

@@ -6,8 +6,6 @@ use native.Mathlib.Omega.{arith}
 use lib.ListN.{length-set}
 use Rattle.record.proofs.Record.write.Statement.{statement}
 use Rattle.record.proofs.Record.write.Tie as tie
-use Rattle.record.proofs.Record.write.Reads as reads
-use Rattle.record.proofs.Record.write.Lts as lts
 
 mul-at : tie.Need-mul-at
 mul-at c = search needs

@@ -1,17 +1,10 @@
 use borrow.Author.Needs.{needs}
 use native.Mathlib.Omega.{arith}
-use Prim.Native.Nat.{_+_}
-use mathlib.Core.Path.{_≡_, sym, _∙_}
-use lib.ListN.{length}
+use mathlib.Core.Path.{sym, _∙_}
 use lib.Seq.{length-take-le}
 use Rattle.path.proofs.ListLaws.{pair-counts, length-pair-numbers, pair-laid}
 use Rattle.path.proofs.sizes.Sizes.list_pair.Statement.{statement}
 use Rattle.path.proofs.sizes.Sizes.list_pair.Tie as tie
-use Rattle.path.proofs.sizes.Sizes.list_pair.Reads as reads
-use Rattle.path.proofs.sizes.Sizes.list_pair.Lts as lts
-use Rattle.path.proofs.sizes.Sizes.name_path.Reads as name-path-reads
-use Rattle.path.proofs.sizes.Sizes.name_siblings.Reads as name-siblings-reads
-use Rattle.path.proofs.sizes.Sizes.pair_counts.Reads as pair-counts-reads
 
 add-whole : tie.Need-add-whole
 add-whole c = search needs

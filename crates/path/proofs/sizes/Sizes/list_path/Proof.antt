@@ -1,18 +1,10 @@
 use borrow.Author.Needs.{needs}
 use native.Mathlib.Omega.{arith}
-use Prim.Native.Nat.{_+_}
-use mathlib.Core.Path.{_≡_, sym, _∙_}
-use lib.ListN.{length, drop, length-append, length-drop}
+use mathlib.Core.Path.{sym, _∙_}
 use lib.Seq.{length-take-le}
-use borrow.Rule.Slice.PartMut.{mid-len}
 use Rattle.path.proofs.ListLaws.{path-counts, length-path-numbers, path-laid}
 use Rattle.path.proofs.sizes.Sizes.list_path.Statement.{statement}
 use Rattle.path.proofs.sizes.Sizes.list_path.Tie as tie
-use Rattle.path.proofs.sizes.Sizes.list_path.Reads as reads
-use Rattle.path.proofs.sizes.Sizes.list_path.Lts as lts
-use Rattle.path.proofs.sizes.Sizes.name_path.Reads as name-path-reads
-use Rattle.path.proofs.sizes.Sizes.name_siblings.Reads as name-siblings-reads
-use Rattle.path.proofs.sizes.Sizes.path_counts.Reads as path-counts-reads
 
 add-all : tie.Need-add-all
 add-all c = search needs

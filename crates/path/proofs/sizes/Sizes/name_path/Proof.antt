@@ -1,15 +1,12 @@
 use borrow.Author.Needs.{needs}
 use native.Mathlib.Omega.{arith}
-use Prim.Native.Nat.{ℕ, suc, _+_, _-_}
-use mathlib.Core.Path.{_≡_, sym, ap, _∙_}
+use Prim.Native.Nat.{suc, _-_}
+use mathlib.Core.Path.{ap, _∙_}
 use lib.ListN.{length}
 use Rattle.path.specs.Path.{pathBucket, number}
 use Rattle.path.proofs.Naming.{Naming, naming-starts, naming-turns, naming-ends, path-named}
 use Rattle.path.proofs.sizes.Sizes.name_path.Statement.{statement}
 use Rattle.path.proofs.sizes.Sizes.name_path.Tie as tie
-use Rattle.path.proofs.sizes.Sizes.name_path.Reads as reads
-use Rattle.path.proofs.sizes.Sizes.name_path.Lts as lts
-use Rattle.path.proofs.sizes.Sizes.bucket_at.Reads as bucket-at-reads
 
 abbrev Inv-loop : tie.InvT-loop
 Inv-loop self leaf from list₀ level₀ i₀ list level i = Naming (λ d. number (pathBucket (self .h) leaf d)) from list₀ list i level

@@ -1,0 +1,2 @@
+-- The laws of refusals that crates above cite.
+pub mod RefusalLaws
