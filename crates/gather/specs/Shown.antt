@@ -1,11 +1,12 @@
 -- What the fetched words show: document 01, "Finish takes the fetched words in list order", whole buckets first, then
 -- the siblings' least records. Assumes nothing.
 use Prim.Native.Nat.{ℕ, zero, suc, _+_, _*_}
-use mathlib.Core.List.{List, [], _++_}
+use mathlib.Core.List.{List, [], _++_, map}
 use lib.ListN.{getD, take, drop}
 use Rattle.record.specs.declared.Record.{Record}
 use Rattle.record.specs.Standing.{dummy}
 use Rattle.record.specs.Words.{records}
+use Rattle.path.specs.Path.{upFrom}
 use Rattle.path.specs.Layout.{Contents}
 
 -- the i-th whole bucket
@@ -19,6 +20,10 @@ wholeAt z ws i =
 -- the i-th sibling's least record, behind n whole buckets
 unfoldable pub siblingAt : ℕ → List ℕ → ℕ → ℕ → Record
 siblingAt z ws n i = getD (records ws) (n * (z + 1) + i) dummy
+
+-- k of them from the i-th on
+unfoldable pub siblingsShown : ℕ → List ℕ → ℕ → ℕ → ℕ → List Record
+siblingsShown z ws n i k = map (siblingAt z ws n) (upFrom i k)
 
 -- the slots of k whole buckets from the i-th on
 unfoldable pub slotsShown : ℕ → List ℕ → ℕ → ℕ → List Record

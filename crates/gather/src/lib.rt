@@ -1,1 +1,145 @@
-// Gathers.
+// Root and fetched words in the scratch of one way, and a record found and cleared there: document 01, "Finish takes the
+// fetched words in list order", and what ExtractMin and Delete do before the path is evicted.
+//
+// A scratch is a lent slice of words, four to a record: the root's R slots, then Z for each level down to the leaf. Each
+// function that writes promises every word of the slice. Stands on `record`, `path` and the definitions of `way`.
+ghost use mathlib.Core.Path.{_≡_};
+ghost use mathlib.Core.List.{_++_};
+ghost use Prim.Native.Nat.{_+_, _*_, _-_, _≤_};
+ghost use lib.ListN.{length, take, drop};
+ghost use Rattle.record.specs.Words.{records};
+ghost use Rattle.way.specs.Evict.{seek};
+ghost use Rattle.gather.specs.Laid.{laidOver};
+ghost use Rattle.gather.specs.Shown.{slotsShown, siblingsShown};
+ghost use Rattle.gather.specs.Removal.{named, Cleared};
+use path::Sizes;
+use record::Leaf;
+use record::RECORD_WORDS;
+use record::Record;
+use record::Stamp;
+
+// For crates above: n records of `src` from place `from` on, to place `at` of `w` and on. Words are copied, not records
+// read: what a record means is nothing to a copy.
+pub fn copy(w: &mut [u64], at: usize, src: &[u64], from: usize, n: usize)
+    requires { ⌜ (4 * (at + n) ≤ length (now w)) × (4 * (from + n) ≤ length (now src)) ⌝ }
+    ensures { λ _. ⌜ now (w .exit) ≡ laidOver (now (w .entry)) at (take n (drop from (records (now (src .entry))))) ⌝ }
+{
+    let to = RECORD_WORDS * at;
+    let first = RECORD_WORDS * from;
+    let count = RECORD_WORDS * n;
+    for k in 0..count {
+        w[to + k] = src[first + k];
+    }
+}
+
+// For crates above: the root's r slots at the head of the scratch.
+pub fn load_root(w: &mut [u64], root: [Record; 64], r: usize)
+    requires { ⌜ (r ≤ 64) × (4 * r ≤ length (now w)) ⌝ }
+    ensures { λ _. ⌜ now (w .exit) ≡ laidOver (now (w .entry)) 0 (take r root) ⌝ }
+{
+    for i in 0..r {
+        let record = root[i];
+        record.write(w, i);
+    }
+}
+
+// For crates above: the root's slots from the head of the scratch back among the card's 64; those past r stay.
+pub fn save_root(w: &[u64], root: [Record; 64], r: usize) -> [Record; 64]
+    requires { ⌜ (r ≤ 64) × (4 * r ≤ length (now w)) ⌝ }
+    ensures { λ out. ⌜ out ≡ take r (records (now (w .entry))) ++ drop r root ⌝ }
+{
+    let mut saved = root;
+    for i in 0..r {
+        saved[i] = Record::read(w, i);
+    }
+    saved
+}
+
+// For crates above: the slots of `count` whole buckets, from the `from`-th of the fetched words on, to place `at` and on.
+// Their least records stay behind: a way has slots only.
+pub fn load_slots(w: &mut [u64], at: usize, words: &[u64], from: usize, count: usize, z: usize)
+    requires { ⌜ (z ≤ 5) × ((4 * (at + z * count) ≤ length (now w)) × (4 * ((from + count) * (z + 1)) ≤ length (now words))) ⌝ }
+    ensures { λ _. ⌜ now (w .exit) ≡ laidOver (now (w .entry)) at (slotsShown z (now (words .entry)) from count) ⌝ }
+{
+    let mut to = at;
+    let mut first = from * (z + 1) + 1;
+    for _ in 0..count {
+        copy(w, to, words, first, z);
+        to += z;
+        first += z + 1;
+    }
+}
+
+// For crates above: the slots of a path's h buckets, from the `from`-th on, behind the root's. The root's slots stay, as
+// they must for Insert's second path.
+pub fn load_path(w: &mut [u64], words: &[u64], from: usize, sizes: Sizes)
+    requires { ⌜ (sizes .z ≤ 5) × ((4 * (sizes .r + sizes .z * sizes .h) ≤ length (now w)) × (4 * ((from + sizes .h) * (sizes .z + 1)) ≤ length (now words))) ⌝ }
+    ensures { λ _. ⌜ now (w .exit) ≡ laidOver (now (w .entry)) (sizes .r) (slotsShown (sizes .z) (now (words .entry)) from (sizes .h)) ⌝ }
+{
+    let r = sizes.r as usize;
+    let h = sizes.h as usize;
+    let z = sizes.z as usize;
+    load_slots(w, r, words, from, h, z);
+}
+
+// For crates above: the least records of a path's siblings at levels `level` to h, which stand behind `whole` whole
+// buckets and `skip` siblings. Level d's goes to place d - 1, whatever the first level is: one path fetches its
+// siblings from level 1 on, each of Insert's two from level 2 on.
+pub fn load_siblings(
+    sibs: &mut [u64],
+    words: &[u64],
+    whole: usize,
+    skip: usize,
+    level: usize,
+    sizes: Sizes,
+)
+    requires { ⌜ (sizes .z ≤ 5) × ((1 ≤ level) × ((level ≤ sizes .h + 1) × (4 * sizes .h ≤ length (now sibs)))) ⌝ }
+    requires { ⌜ 4 * (whole * (sizes .z + 1) + skip + (sizes .h + 1 - level)) ≤ length (now words) ⌝ }
+    ensures { λ _. ⌜ now (sibs .exit) ≡ laidOver (now (sibs .entry)) (level - 1) (siblingsShown (sizes .z) (now (words .entry)) whole skip (sizes .h + 1 - level)) ⌝ }
+{
+    let h = sizes.h as usize;
+    let z = sizes.z as usize;
+    let from = whole * (z + 1) + skip;
+    copy(sibs, level - 1, words, from, h + 1 - level);
+}
+
+// "the record that has this label and stamp". Stamps differ most, so they are looked at first; the dummy has label and
+// stamp 0, and is no record.
+fn is_named(record: Record, label: Leaf, stamp: Stamp) -> bool
+    ensures { λ b. ⌜ b ≡ named label stamp «record» ⌝ }
+{
+    if record.stamp.0 != stamp.0 {
+        return false;
+    }
+    if record.label.0 != label.0 {
+        return false;
+    }
+    !record.is_dummy()
+}
+
+// For crates above: the place of the first record of this label and stamp; the number of places if there is none.
+pub fn find(w: &[u64], label: Leaf, stamp: Stamp) -> usize
+    ensures { λ i. ⌜ i ≡ seek (named label stamp) (length (records (now (w .entry)))) (records (now (w .entry))) ⌝ }
+{
+    let n = w.len() / RECORD_WORDS;
+    for i in 0..n {
+        let record = Record::read(w, i);
+        if is_named(record, label, stamp) {
+            return i;
+        }
+    }
+    n
+}
+
+// For crates above: the record of this label and stamp replaced by the dummy, all four words of it, or nothing changed;
+// and whether it was there.
+pub fn clear(w: &mut [u64], label: Leaf, stamp: Stamp) -> bool
+    ensures { λ b. ⌜ Cleared (named label stamp) (now (w .entry)) (now (w .exit)) b ⌝ }
+{
+    let i = find(w, label, stamp);
+    if i < w.len() / RECORD_WORDS {
+        Record::DUMMY.write(w, i);
+        return true;
+    }
+    false
+}

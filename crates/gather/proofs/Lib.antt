@@ -1,0 +1,6 @@
+-- Laws of a scratch: what crates above may use, and what the loops that load one have done so far.
+pub mod LaidLaws
+pub mod ShownLaws
+pub mod LoadedLaws
+pub mod RemovalLaws
+pub mod Loading

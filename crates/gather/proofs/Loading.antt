@@ -1,0 +1,123 @@
+-- What the loops that load a scratch have done so far: words copied, and records laid one behind the other.
+-- Assumes nothing.
+use Prim.Native.Nat.{ℕ, suc, _+_, _*_, _-_, _≤_, _<_}
+use mathlib.Core.Path.{_≡_, refl, sym, ap, _∙_}
+use mathlib.Core.List.{List, [], _++_}
+use native.Mathlib.Nat.{mul-le-mul-left, mul-le-mul-right}
+use native.Mathlib.Numerals.{add-one}
+use native.Mathlib.Omega.{arith}
+use lib.ListN.{length, getD, set, take, drop, length-drop, length-set}
+use lib.Seq.{length-take-le, take-suc, drop-cons, set-at, append-snoc, getD-drop, paste, paste-zero, paste-suc}
+use Rattle.record.specs.declared.Record.{Record}
+use Rattle.record.specs.Words.{records, written}
+use Rattle.way.proofs.WayLaws.{part-length}
+use Rattle.gather.specs.Laid.{laidOver}
+use Rattle.gather.specs.Shown.{slotsShown}
+use Rattle.gather.proofs.LaidLaws.{laid-none, laid-length, laid-more, written-laid, paste-laid}
+use Rattle.gather.proofs.ShownLaws.{slots-none, slots-more, slots-length}
+
+-- A loop over words has copied k of `count`.
+pub record Copying (old src : List ℕ) (to first count : ℕ) (now : List ℕ) (k : ℕ) : Type 0 where
+  pub room : length now ≡ length old
+  pub place : k ≤ count
+  pub done : now ≡ paste old to (drop first src) k
+
+module _ (old src : List ℕ) (to first count : ℕ) where
+  pub copying-starts : Copying old src to first count old 0
+  copying-starts = record { room = refl; place = omega arith; done = paste-zero old to (drop first src) }
+
+  pub copying-turns : (now : List ℕ) (k : ℕ) → Copying old src to first count now k → k < count
+      → to + count ≤ length old → first + count ≤ length src
+      → Copying old src to first count (set now (to + k) (getD src (first + k) 0)) (k + 1)
+  copying-turns now k c l fits given =
+      let more = paste-suc old to (drop first src) k 0 (omega arith) (rw length-drop (omega arith)) in
+      record {
+        room = length-set now (to + k) _ ∙ c .room;
+        place = omega arith;
+        done = rw (c .done, ← getD-drop, add-one) more;
+      }
+
+pub copying-ends : (old src now : List ℕ) (at from n k : ℕ) → Copying old src (4 * at) (4 * from) (4 * n) now k
+    → 4 * n ≤ k → 4 * (from + n) ≤ length src → now ≡ laidOver old at (take n (drop from (records src)))
+copying-ends old src now at from n k c l given =
+    let e : k ≡ 4 * n = omega arith in
+    c .done ∙ rw e (paste-laid old src at from n given)
+
+-- Records are laid from a place on, so far `rs`.
+pub record Laying (old : List ℕ) (at : ℕ) (rs : List Record) (now : List ℕ) : Type 0 where
+  pub room : length now ≡ length old
+  pub done : now ≡ laidOver old at rs
+
+module _ (old : List ℕ) (at : ℕ) where
+  pub laying-starts : Laying old at [] old
+  laying-starts = record { room = refl; done = sym (laid-none old at) }
+
+  pub laying-turns : (rs ss : List Record) (now next : List ℕ) (place : ℕ) → Laying old at rs now → place ≡ at + length rs
+      → 4 * (place + length ss) ≤ length old → next ≡ laidOver now place ss → Laying old at (rs ++ ss) next
+  laying-turns rs ss now next place s e fits f =
+      let n = s .room in
+      record {
+        room = ap length f ∙ laid-length now place ss (omega arith) ∙ n;
+        done = f ∙ rw (s .done, e) (laid-more old at rs (omega arith) ss);
+      }
+
+-- the root's slots, the first i of them
+module _ (old : List ℕ) (root : List Record) where
+  pub root-turns : (now next : List ℕ) (i : ℕ) (d : Record) → Laying old 0 (take i root) now → i < length root → 4 * i + 4 ≤ length old
+      → next ≡ written now i (getD root i d) → Laying old 0 (take (i + 1) root) next
+  root-turns now next i d s l fits e =
+      let n = s .room in
+      let k = length-take-le i root (omega arith) in
+      rw (add-one, take-suc root i d l) (laying-turns old 0 (take i root) _ now next i s (omega arith) (omega arith) (e ∙ written-laid now i _ (omega arith)))
+
+-- A loop over buckets has laid the slots of d of them, from the `from`-th on.
+pub record Slots (z : ℕ) (ws : List ℕ) (at from : ℕ) (old now : List ℕ) (to first d : ℕ) : Type 0 where
+  pub place : to ≡ at + z * d
+  pub bucket : first ≡ (from + d) * (z + 1) + 1
+  pub laid : Laying old at (slotsShown z ws from d) now
+
+module _ (z : ℕ) (ws : List ℕ) (at from : ℕ) (old : List ℕ) where
+  pub slots-start : Slots z ws at from old old at (from * (z + 1) + 1) 0
+  slots-start =
+      record { place = omega arith; bucket = omega arith; laid = rw slots-none (laying-starts old at) }
+
+  -- the next bucket is there, and there is room for its slots
+  pub slots-within : (now : List ℕ) (to first d count : ℕ) → Slots z ws at from old now to first d → d < count
+      → 4 * (at + z * count) ≤ length old → 4 * ((from + count) * (z + 1)) ≤ length ws
+      → (4 * (to + z) ≤ length now) × (4 * (first + z) ≤ length ws)
+  slots-within now to first d count s l fits given =
+      let a : z * suc d ≤ z * count = mul-le-mul-left z l in
+      let b : (from + suc d) * (z + 1) ≤ (from + count) * (z + 1) = mul-le-mul-right (z + 1) (omega arith) in
+      (omega arith, omega arith)
+
+  pub slots-turn : (now next : List ℕ) (to first d count : ℕ) → Slots z ws at from old now to first d → d < count
+      → 4 * (at + z * count) ≤ length old → 4 * ((from + count) * (z + 1)) ≤ length ws
+      → next ≡ laidOver now to (take z (drop first (records ws)))
+      → Slots z ws at from old next (to + z) (first + (z + 1)) (d + 1)
+  slots-turn now next to first d count s l fits given e =
+      let (a, b) = slots-within now to first d count s l fits given in
+      let k = s .laid .room in
+      let n = slots-length z ws from d (omega arith) in
+      let m = part-length ws first z (omega arith) in
+      let more = laying-turns old at _ _ now next to (s .laid) (omega arith) (omega arith) e in
+      record { place = omega arith; bucket = omega arith; laid = rw (slots-more, ← s .bucket) more }
+
+  pub slots-end : (now : List ℕ) (to first d count : ℕ) → Slots z ws at from old now to first d → d ≡ count
+      → now ≡ laidOver old at (slotsShown z ws from count)
+  slots-end now to first d count s e = rw (← e) (s .laid .done)
+
+-- A loop over the card's slots has put back the first i of a way.
+pub record Saving (way root : List Record) (now : List Record) (i : ℕ) : Type 0 where
+  pub done : now ≡ take i way ++ drop i root
+
+module _ (way root : List Record) where
+  pub saving-starts : Saving way root root 0
+  saving-starts = record { done = refl }
+
+  pub saving-turns : (now : List Record) (i : ℕ) (x d : Record) → Saving way root now i → i < length way → i < length root
+      → x ≡ getD way i d → Saving way root (set now i x) (i + 1)
+  saving-turns now i x d s l m e =
+      let n = length-take-le i way (omega arith) in
+      record {
+        done = rw (s .done, e, drop-cons root i d m, set-at _ _ _ _ i n, ← append-snoc, ← take-suc way i d l, add-one);
+      }
