@@ -4,6 +4,7 @@ use mathlib.Core.Bool.{cond}
 use mathlib.Core.List.{List, [], _∷_}
 use mathlib.Core.Path.{_≡_}
 use lib.Dec.{eqb}
+use lib.ListN.{replicate}
 use Rattle.card.specs.declared.Card.{Card}
 use Rattle.card.specs.declared.Answer.{Answer}
 use Rattle.card.specs.declared.Answer.the-variants.{Started, Listed, Least, Withdrawn, Refused}
@@ -17,14 +18,17 @@ numberOf (Least r) = 0
 numberOf Withdrawn = 0
 numberOf (Refused number) = number
 
--- and its values: for a begin how many buckets are whole and how many least-record only; for FindMin key, value, label,
--- stamp and the words moved
+-- and its six values; one that does not apply is 0. A begin answers how many buckets are whole and how many least-record
+-- only; FindMin key, value, label, stamp, found and the words moved.
+abbrev pub noValues : List ℕ
+noValues = replicate 6 0
+
 abbrev pub valuesOf : Answer → List ℕ
-valuesOf Started = []
-valuesOf (Listed whole least) = whole ∷ least ∷ []
-valuesOf (Least r) = r .key ∷ r .value ∷ r .label .0 ∷ r .stamp .0 ∷ 0 ∷ []
-valuesOf Withdrawn = []
-valuesOf (Refused number) = []
+valuesOf Started = noValues
+valuesOf (Listed whole least) = whole ∷ least ∷ 0 ∷ 0 ∷ 0 ∷ 0 ∷ []
+valuesOf (Least r) = r .key ∷ r .value ∷ r .label .0 ∷ r .stamp .0 ∷ 0 ∷ 0 ∷ []
+valuesOf Withdrawn = noValues
+valuesOf (Refused number) = noValues
 
 -- a refused call hands back the card as it came, and its number alone
 abbrev pub refused : Card → ℕ → Done
@@ -38,3 +42,4 @@ orRefused k number done = cond (eqb number 0) done (refused k number)
 pub record Answered (k : Card) (number : ℕ) (done answer : Done) : Type 0 where
   pub whole : answer ≡ orRefused k number done
   pub numbered : numberOf (answer .answer) ≡ number
+  pub valued : valuesOf (answer .answer) ≡ cond (eqb number 0) (valuesOf (done .answer)) noValues

@@ -56,12 +56,14 @@ module _ (s : Sizes) (t c : ℕ) where
       ∷ row 7 (not (known (record { 0 = t }) stamp))
       ∷ []
 
-unfoldable pub requestTable : Card → Waiting → List Refusal
-requestTable k Nothing = []
-requestTable k (Insert key value label first second) =
-    insertRows (k .sizes) (k .t) (k .c) (k .root) key label first second
-requestTable k Extract = extractRows (k .sizes) (k .t) (k .c)
-requestTable k (Delete label stamp) = deleteRows (k .sizes) (k .t) (k .c) label stamp
+  unfoldable pub requestRows : List Record → Waiting → List Refusal
+  requestRows root Nothing = []
+  requestRows root (Insert key value label first second) = insertRows root key label first second
+  requestRows root Extract = extractRows
+  requestRows root (Delete label stamp) = deleteRows label stamp
+
+abbrev pub requestTable : Card → Waiting → List Refusal
+requestTable k w = requestRows (k .sizes) (k .t) (k .c) (k .root) w
 
 -- whether a request waits
 unfoldable pub waits : Waiting → Bool

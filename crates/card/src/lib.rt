@@ -3,7 +3,9 @@
 //
 // A card is a value that goes in with a call and comes out of it. Every call answers, whatever numbers the card holds.
 // Stands on `record`, `path`, `refusal`, `root`.
+mod calls;
 mod judge;
+mod why;
 
 use path::Sizes;
 use record::Leaf;

@@ -1,10 +1,7 @@
 use borrow.Author.Needs.{needs}
-use native.Mathlib.Omega.{arith}
 use Rattle.card.specs.Tables.{waits}
 use Rattle.card.proofs.judge.is_waiting.Statement.{statement}
 use Rattle.card.proofs.judge.is_waiting.Tie as tie
-use Rattle.card.proofs.judge.is_waiting.Reads as reads
-use Rattle.card.proofs.judge.is_waiting.Lts as lts
 
 enum-told : tie.Need-enum-told
 enum-told c = search needs

@@ -1,5 +1,4 @@
 use borrow.Author.Needs.{needs}
-use native.Mathlib.Omega.{arith}
 use mathlib.Core.Path.{sym, ap, _∙_}
 use mathlib.Core.Bool.{not}
 use borrow.Author.Tests.{eq-eqb, ne-eqb, le-leb, lt-leb}
@@ -7,10 +6,6 @@ use Rattle.refusal.specs.Refusal.{firstGiven}
 use Rattle.card.specs.Tables.{deleteRows}
 use Rattle.card.proofs.judge.why_delete.Statement.{statement}
 use Rattle.card.proofs.judge.why_delete.Tie as tie
-use Rattle.card.proofs.judge.why_delete.Reads as reads
-use Rattle.card.proofs.judge.why_delete.Lts as lts
-use Rattle.path.proofs.leaves.Reads as leaves-reads
-use Rattle.record.proofs.Stamp.is_known.Reads as is-known-reads
 
 returns : tie.Need-returns
 unfolding firstGiven deleteRows

@@ -1,21 +1,14 @@
 use borrow.Author.Needs.{needs}
 use native.Mathlib.Omega.{arith}
-use Prim.Native.Nat.{_*_}
-use mathlib.Core.Path.{_≡_, sym, ap, _∙_}
+use mathlib.Core.Path.{sym, _∙_}
 use borrow.Author.Tests.{eq-eqb, ne-eqb, le-leb, lt-leb, lt-ltb, le-ltb}
-use lib.ListN.{take}
 use lib.Seq.{length-take-le}
-use Rattle.record.specs.Words.{records}
 use Rattle.record.proofs.WordsLaws.{records-take}
 use Rattle.refusal.specs.Refusal.{firstGiven}
 use Rattle.root.specs.Root.{rootFull}
 use Rattle.card.specs.Tables.{insertRows}
 use Rattle.card.proofs.judge.why_insert.Statement.{statement}
 use Rattle.card.proofs.judge.why_insert.Tie as tie
-use Rattle.card.proofs.judge.why_insert.Reads as reads
-use Rattle.card.proofs.judge.why_insert.Lts as lts
-use Rattle.path.proofs.leaves.Reads as leaves-reads
-use Rattle.root.proofs.all_real.Reads as all-real-reads
 
 returns : tie.Need-returns
 unfolding firstGiven insertRows

@@ -1,0 +1,181 @@
+-- What a begin that is not refused tells: a good card, no request that waits, a request within its rules, room for its
+-- list. Assumes nothing.
+use Prim.Native.Nat.{ℕ, _+_, _/_, _≤_, _<_}
+use mathlib.Core.Bool.{Bool, true, false, cond, _||_}
+use mathlib.Core.List.{List, []}
+use mathlib.Core.Logic.{inl, inr}
+use mathlib.Mathlib.Data.Bool.Basic.{dichotomy}
+use mathlib.Core.Path.{_≡_, refl, ap, _∙_}
+use native.Mathlib.Omega.{arith}
+use lib.Dec.{ltb, eqb}
+use lib.ListN.{length}
+use borrow.Author.Tests.{eqb-false, eq-eqb, ne-eqb, leb-false, ltb-false, lt-ltb, le-ltb, not-false}
+use Rattle.record.specs.declared.Leaf.{Leaf}
+use Rattle.record.specs.declared.Stamp.{Stamp}
+use Rattle.record.specs.Standing.{dummyKey, known, isDummy, isProper, mayStand}
+use Rattle.path.specs.declared.list.Listed.{Listed as Counts}
+use Rattle.path.specs.BucketList.{numbers, pairList, pathList, Names}
+use Rattle.path.proofs.SizesLaws.{in-range}
+use Rattle.path.proofs.ListLaws.{length-numbers, pair-counts, path-counts}
+use Rattle.refusal.specs.Refusal.{firstGiven}
+use Rattle.refusal.proofs.RefusalLaws.{none-given, Numbered, none, next, first-append, append-none}
+use Rattle.root.specs.Root.{rootFull}
+use Rattle.card.specs.declared.Card.{Card}
+use Rattle.card.specs.declared.Waiting.{Waiting}
+use Rattle.card.specs.declared.Waiting.the-variants.{Nothing, Insert, Extract, Delete}
+use Rattle.card.specs.declared.Answer.the-variants.{Listed}
+use Rattle.card.specs.Tables.{leavesIn, nextStamp, badLabel, insertRows, extractRows, deleteRows, requestRows, requestTable, waits}
+use Rattle.card.specs.BadCard.{badCard, oddLeast}
+use Rattle.card.specs.Answers.{refused}
+use Rattle.card.specs.Calls.{listOf, roomFor, beginTable, withWaiting, begun, Begins}
+use Rattle.card.proofs.AnswerLaws.{is-refused, is-done}
+use Rattle.card.proofs.GoodLaws.{Good, good, neither}
+
+-- every row of a request's table has a number
+pub request-numbered : (k : Card) (w : Waiting) → Numbered (requestTable k w)
+unfolding requestRows insertRows extractRows deleteRows
+request-numbered k Nothing = none
+request-numbered k (Insert key value label first second) =
+    next 4 (omega arith) (next 5 (omega arith) (next 6 (omega arith) (next 9 (omega arith) (next 10 (omega arith) none))))
+request-numbered k Extract = next 4 (omega arith) (next 8 (omega arith) none)
+request-numbered k (Delete label stamp) = next 4 (omega arith) (next 6 (omega arith) (next 7 (omega arith) none))
+
+-- the room that the height tells is what the list takes
+pub room-for : (k : Card) (w : Waiting) → 1 ≤ k .sizes .h → length (numbers (listOf k w)) ≡ roomFor (k .sizes .h) w
+unfolding listOf roomFor
+room-for k Nothing h = refl
+room-for k (Insert key value label first second) h =
+    length-numbers (pairList (k .sizes .h) first second)
+    ∙ ap (λ (n : Counts). n .whole + n .least) (pair-counts (k .sizes .h) first second h)
+room-for k Extract h =
+    length-numbers (pathList (k .sizes .h) (k .least .label))
+    ∙ ap (λ (n : Counts). n .whole + n .least) (path-counts (k .sizes .h) (k .least .label))
+room-for k (Delete label stamp) h =
+    length-numbers (pathList (k .sizes .h) label)
+    ∙ ap (λ (n : Counts). n .whole + n .least) (path-counts (k .sizes .h) label)
+
+-- a begin on a good card on which none waits: the request's own refusal, or no room, or none
+module _ (k : Card) (w : Waiting) (room : ℕ) (fine : badCard k ≡ false) (idle : waits (k .waiting) ≡ false) where
+  rest-decides :
+      firstGiven (beginTable k w room)
+      ≡ cond (eqb (firstGiven (requestTable k w)) 0) (cond (ltb room (length (numbers (listOf k w)))) 11 0)
+      (firstGiven (requestTable k w))
+  unfolding beginTable firstGiven
+  rest-decides = rw (fine, idle) (first-append _ (request-numbered k w))
+
+  pub request-refused : (firstGiven (requestTable k w) ≡ 0 → ⊥)
+      → firstGiven (beginTable k w room) ≡ firstGiven (requestTable k w)
+  request-refused h = rest-decides ∙ rw (ne-eqb (firstGiven (requestTable k w)) 0 h)
+
+  module _ (unrefused : firstGiven (requestTable k w) ≡ 0) where
+    height : 1 ≤ k .sizes .h
+    height = in-range (k .sizes) (good k fine .sizes) .tree .height .0
+
+    pub room-short : room < roomFor (k .sizes .h) w → firstGiven (beginTable k w room) ≡ 11
+    room-short h = rest-decides ∙ rw (unrefused, room-for k w height, lt-ltb _ _ h)
+
+    pub room-enough : roomFor (k .sizes .h) w ≤ room → firstGiven (beginTable k w room) ≡ 0
+    room-enough h = rest-decides ∙ rw (unrefused, room-for k w height, le-ltb _ _ h)
+
+-- a begin that is not refused
+pub record Accepted (k : Card) (w : Waiting) (room : ℕ) : Type 0 where
+  pub card : Good k
+  pub idle : waits (k .waiting) ≡ false
+  pub request : firstGiven (requestTable k w) ≡ 0
+  pub place : length (numbers (listOf k w)) ≤ room
+
+pub accepted : (k : Card) (w : Waiting) (room : ℕ) → firstGiven (beginTable k w room) ≡ 0 → Accepted k w room
+unfolding beginTable
+accepted k w room e =
+    let a = none-given 13 (badCard k) _ (omega arith) e in
+    let b = none-given 2 (waits (k .waiting)) _ (omega arith) (a .1) in
+    let c = append-none _ (request-numbered k w) (b .1) in
+    let d = none-given 11 (ltb room (length (numbers (listOf k w)))) [] (omega arith) (c .1) in
+    record { card = good k (a .0); idle = b .0; request = c .0; place = ltb-false _ _ (d .0) }
+
+-- ---- a request within its rules
+pub record Insertable (k : Card) (x : ℕ) (l f s : Leaf) : Type 0 where
+  pub time : k .t ≡ k .sizes .t → ⊥
+  pub key : x ≡ dummyKey → ⊥
+  pub label : l .0 < leavesIn k
+  pub first : f .0 < leavesIn k / 2
+  pub second : (leavesIn k / 2 ≤ s .0) × (s .0 < leavesIn k)
+  pub space : k .c ≡ leavesIn k → ⊥
+  pub slot : rootFull (k .sizes .r) (k .root) ≡ false
+
+pub insertable :
+    (k : Card) (key value : ℕ) (label first second : Leaf) → firstGiven (requestTable k (Insert key value label first second)) ≡ 0
+    → Insertable k key label first second
+unfolding requestRows insertRows
+insertable k key value label first second e =
+    let a = none-given 4 _ _ (omega arith) e in
+    let b = none-given 5 _ _ (omega arith) (a .1) in
+    let c = none-given 6 _ _ (omega arith) (b .1) in
+    let d = none-given 9 _ _ (omega arith) (c .1) in
+    let f = none-given 10 _ _ (omega arith) (d .1) in
+    let l = neither (badLabel (leavesIn k) label) _ (c .0) in
+    let m = neither _ _ (l .1) in
+    let n = neither _ _ (m .1) in
+    record {
+      time = eqb-false _ _ (a .0);
+      key = eqb-false _ _ (b .0);
+      label = leb-false _ _ (l .0);
+      first = leb-false _ _ (m .0);
+      second = (ltb-false _ _ (n .0), leb-false _ _ (n .1));
+      space = eqb-false _ _ (d .0);
+      slot = f .0;
+    }
+
+pub record Extractable (k : Card) : Type 0 where
+  pub time : k .t ≡ k .sizes .t → ⊥
+  pub some : k .c ≡ 0 → ⊥
+
+pub extractable : (k : Card) → firstGiven (requestTable k Extract) ≡ 0 → Extractable k
+unfolding requestRows extractRows
+extractable k e =
+    let a = none-given 4 _ _ (omega arith) e in
+    let b = none-given 8 _ _ (omega arith) (a .1) in
+    record { time = eqb-false _ _ (a .0); some = eqb-false _ _ (b .0) }
+
+pub record Deletable (k : Card) (l : Leaf) (s : Stamp) : Type 0 where
+  pub time : k .t ≡ k .sizes .t → ⊥
+  pub label : l .0 < leavesIn k
+  pub stamp : known (nextStamp k) s ≡ true
+
+pub deletable : (k : Card) (label : Leaf) (stamp : Stamp) → firstGiven (requestTable k (Delete label stamp)) ≡ 0
+    → Deletable k label stamp
+unfolding requestRows deleteRows
+deletable k label stamp e =
+    let a = none-given 4 _ _ (omega arith) e in
+    let b = none-given 6 _ _ (omega arith) (a .1) in
+    let c = none-given 7 _ _ (omega arith) (b .1) in
+    record { time = eqb-false _ _ (a .0); label = leb-false _ _ (b .0); stamp = not-false _ (c .0) }
+
+-- the root's least record of a good card with live events is proper
+pub least-proper : (k : Card) → Good k → (k .c ≡ 0 → ⊥) → isProper (leavesIn k) (nextStamp k) (k .least) ≡ true
+unfolding oddLeast mayStand
+least-proper k g h = elim (dichotomy (isDummy (k .least))) [
+  | inl f ↦
+      let o = rw (f, ne-eqb (k .c) 0 h) at (g .odd) in
+      not-false _ o
+  | inr t ↦
+      let o = rw t at (g .odd) in
+      absurd (h (omega (arith, ltb-false 0 (k .c) (neither _ _ o .0))))
+]
+
+-- ---- what a begin answers
+module _ (k : Card) (w : Waiting) (before : List ℕ) (number : ℕ) (why : number ≡ firstGiven (beginTable k w (length before))) where
+  pub begin-refused : (number ≡ 0 → ⊥) → Begins k w before before (refused k number)
+  begin-refused h =
+      record {
+        call = rw (← why) (is-refused k number (begun k w) h);
+        places = rw (← why, ne-eqb number 0 h);
+      }
+
+  pub begin-done : (after : List ℕ) (n : Counts) → number ≡ 0 → Names (listOf k w) before after n
+      → Begins k w before after (record { card = withWaiting k w; answer = Listed (n .whole) (n .least) })
+  begin-done after n h l =
+      record {
+        call = rw (← why, l .counted) (is-done k number (begun k w) h refl);
+        places = rw (← why, eq-eqb number 0 h) (l .places);
+      }

@@ -1,0 +1,39 @@
+use borrow.Author.Needs.{needs}
+use mathlib.Core.Path.{sym, _∙_}
+use lib.ListN.{length}
+use Rattle.path.proofs.SizesLaws.{in-range}
+use Rattle.card.specs.declared.Waiting.the-variants.{Delete}
+use Rattle.card.specs.Calls.{listOf}
+use Rattle.card.proofs.BeginLaws.{accepted, deletable, begin-refused, begin-done}
+use Rattle.card.proofs.Card.begin_delete.Statement.{statement}
+use Rattle.card.proofs.Card.begin_delete.Tie as tie
+
+why-begin-requires : tie.Need-why-begin-requires
+why-begin-requires c κs = search needs
+
+returns : tie.Need-returns
+returns c =
+    let s = c .before .before .before .args in
+    begin-refused (s .self) (Delete (s .label) (s .stamp)) (s .list .now) _ (c .before .why-begin .ensures) (c .if1 .taken)
+
+list-path-requires : tie.Need-list-path-requires
+unfolding listOf
+list-path-requires c κs =
+    let s = c .before .before .before .before .args in
+    let b = accepted (s .self) (Delete (s .label) (s .stamp)) (length (s .list .now)) (sym (c .before .before .why-begin .ensures) ∙ c .before .if1 .left) in
+    let i = in-range (s .self .sizes) (b .card .sizes) in
+    let d = deletable (s .self) (s .label) (s .stamp) (b .request) in
+    ((i .tree .height .1, d .label), b .place)
+
+same-length : tie.Need-same-length
+same-length c = search needs
+
+returns-2 : tie.Need-returns-2
+unfolding listOf
+returns-2 c =
+    let s = c .before .before .before .before .before .before .before .before .before .before .args in
+    begin-done (s .self) (Delete (s .label) (s .stamp)) (s .list .now) _ (c .before .before .before .before .before .before .before .before .why-begin .ensures) _ _ (c .before .before .before .before .before .before .before .if1 .left) (c .before .before .before .before .before .list-path .ensures)
+
+pub begin-delete-spec : {M : Type 1} → statement M
+begin-delete-spec =
+    tie.close (tie.spec why-begin-requires returns list-path-requires same-length returns-2)

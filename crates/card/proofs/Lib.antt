@@ -1,0 +1,6 @@
+-- The laws of the card that crates above cite.
+pub mod JudgeLaws
+pub mod GoodLaws
+pub mod AnswerLaws
+pub mod BeginLaws
+pub mod CallLaws

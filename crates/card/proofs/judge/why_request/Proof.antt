@@ -1,0 +1,58 @@
+use borrow.Author.Needs.{needs}
+use Rattle.refusal.specs.Refusal.{firstGiven}
+use Rattle.card.specs.Tables.{requestRows}
+use Rattle.card.proofs.judge.why_request.Statement.{statement}
+use Rattle.card.proofs.judge.why_request.Tie as tie
+
+enum-told : tie.Need-enum-told
+enum-told c = search needs
+
+enum-known-request : tie.Need-enum-known-request
+enum-known-request c = search needs
+
+why-insert-requires : tie.Need-why-insert-requires
+why-insert-requires c κs = search needs
+
+enum-told-2 : tie.Need-enum-told-2
+enum-told-2 c = search needs
+
+why-extract-requires : tie.Need-why-extract-requires
+why-extract-requires c κs = search needs
+
+enum-known-request-2 : tie.Need-enum-known-request-2
+enum-known-request-2 c = search needs
+
+why-delete-requires : tie.Need-why-delete-requires
+why-delete-requires c κs = search needs
+
+returns : tie.Need-returns
+unfolding requestRows firstGiven
+returns c = rw (c .enum-told .given .1)
+
+returns-2 : tie.Need-returns-2
+unfolding requestRows
+returns-2 c = rw (c .before .before .request .given .1) (c .why-insert .ensures)
+
+returns-3 : tie.Need-returns-3
+unfolding requestRows
+returns-3 c = rw (c .before .enum-told2 .given .1) (c .why-extract .ensures)
+
+returns-4 : tie.Need-returns-4
+unfolding requestRows
+returns-4 c = rw (c .before .before .request2 .given .1) (c .why-delete .ensures)
+
+pub why-request-spec : {M : Type 1} → statement M
+why-request-spec =
+    tie.close
+    (tie.spec
+    enum-told
+    enum-known-request
+    why-insert-requires
+    enum-told-2
+    why-extract-requires
+    enum-known-request-2
+    why-delete-requires
+    returns
+    returns-2
+    returns-3
+    returns-4)

@@ -1,0 +1,230 @@
+// The calls on a card but finish: document 01, "A request, step by step". Each hands back the new card and the answer; a
+// refused call hands back the card as it came, and its number.
+ghost use mathlib.Core.Path.{_≡_};
+ghost use Rattle.refusal.specs.Refusal.{firstGiven};
+ghost use Rattle.path.specs.Sizes.{sizesOf};
+ghost use Rattle.card.specs.Answers.{Answered};
+ghost use Rattle.card.specs.Calls.{freshCard, zeroCard, startTable, started, Begins, minTable, foundMin, withdrawTable, withdrawn};
+use crate::Answer;
+use crate::Card;
+use crate::Done;
+use crate::Waiting;
+use crate::why::why_begin;
+use crate::why::why_min;
+use crate::why::why_withdraw;
+use path::Sizes;
+use record::Leaf;
+use record::Record;
+use record::Stamp;
+use refusal::BAD_SIZE;
+
+impl Card {
+    // A card on which nothing is finished, live or waiting.
+    pub fn fresh(sizes: Sizes) -> Card
+        ensures { λ k. ⌜ k ≡ freshCard sizes ⌝ }
+    {
+        let waiting = Waiting::Nothing;
+        let least = Record::DUMMY;
+        Card {
+            sizes: sizes,
+            t: 0,
+            c: 0,
+            root: [Record::DUMMY; 64],
+            least: least,
+            waiting: waiting,
+        }
+    }
+
+    // What a refused start hands back: 0 in every field. Its height is 0, so every call refuses it.
+    fn zero() -> Card
+        ensures { λ k. ⌜ k ≡ zeroCard ⌝ }
+    {
+        let none = Record {
+            key: 0,
+            value: 0,
+            label: Leaf(0),
+            stamp: Stamp(0),
+        };
+        let sizes = Sizes {
+            h: 0,
+            z: 0,
+            r: 0,
+            t: 0,
+        };
+        let waiting = Waiting::Nothing;
+        Card {
+            sizes: sizes,
+            t: 0,
+            c: 0,
+            root: [none; 64],
+            least: none,
+            waiting: waiting,
+        }
+    }
+
+    pub fn start(h: u64, z: u64, r: u64, t: u64) -> Done
+        ensures { λ d. ⌜ Answered zeroCard (firstGiven (startTable (sizesOf h z r t))) (started (sizesOf h z r t)) d ⌝ }
+    {
+        let sizes = Sizes {
+            h: h,
+            z: z,
+            r: r,
+            t: t,
+        };
+        if !sizes.in_range() {
+            let answer = Answer::Refused(BAD_SIZE);
+            let card = Card::zero();
+            return Done {
+                card: card,
+                answer: answer,
+            };
+        }
+        let answer = Answer::Started;
+        let card = Card::fresh(sizes);
+        Done {
+            card: card,
+            answer: answer,
+        }
+    }
+
+    pub fn begin_insert(
+        self,
+        key: u64,
+        value: u64,
+        label: Leaf,
+        first: Leaf,
+        second: Leaf,
+        list: &mut [u64],
+    ) -> Done
+        ensures { λ d. ⌜ Begins self (Waiting.Insert key value label first second) (now (list .entry)) (now (list .exit)) d ⌝ }
+    {
+        let request = Waiting::Insert {
+            key: key,
+            value: value,
+            label: label,
+            first: first,
+            second: second,
+        };
+        let number = why_begin(self, request, list.len());
+        if number != 0 {
+            let answer = Answer::Refused(number);
+            return Done {
+                card: self,
+                answer: answer,
+            };
+        }
+        let counts = self.sizes.list_pair(first, second, list);
+        let answer = Answer::Listed {
+            whole: counts.whole,
+            least: counts.least,
+        };
+        let card = Card {
+            waiting: request,
+            ..self
+        };
+        Done {
+            card: card,
+            answer: answer,
+        }
+    }
+
+    pub fn begin_extract(self, list: &mut [u64]) -> Done
+        ensures { λ d. ⌜ Begins self Waiting.Extract (now (list .entry)) (now (list .exit)) d ⌝ }
+    {
+        let request = Waiting::Extract;
+        let number = why_begin(self, request, list.len());
+        if number != 0 {
+            let answer = Answer::Refused(number);
+            return Done {
+                card: self,
+                answer: answer,
+            };
+        }
+        let counts = self.sizes.list_path(self.least.label, list);
+        let answer = Answer::Listed {
+            whole: counts.whole,
+            least: counts.least,
+        };
+        let card = Card {
+            waiting: request,
+            ..self
+        };
+        Done {
+            card: card,
+            answer: answer,
+        }
+    }
+
+    pub fn begin_delete(self, label: Leaf, stamp: Stamp, list: &mut [u64]) -> Done
+        ensures { λ d. ⌜ Begins self (Waiting.Delete label stamp) (now (list .entry)) (now (list .exit)) d ⌝ }
+    {
+        let request = Waiting::Delete {
+            label: label,
+            stamp: stamp,
+        };
+        let number = why_begin(self, request, list.len());
+        if number != 0 {
+            let answer = Answer::Refused(number);
+            return Done {
+                card: self,
+                answer: answer,
+            };
+        }
+        let counts = self.sizes.list_path(label, list);
+        let answer = Answer::Listed {
+            whole: counts.whole,
+            least: counts.least,
+        };
+        let card = Card {
+            waiting: request,
+            ..self
+        };
+        Done {
+            card: card,
+            answer: answer,
+        }
+    }
+
+    // At once, and no finished request: the list is empty, and no words are moved.
+    pub fn find_min(self) -> Done
+        ensures { λ d. ⌜ Answered self (firstGiven (minTable self)) (foundMin self) d ⌝ }
+    {
+        let number = why_min(self);
+        if number != 0 {
+            let answer = Answer::Refused(number);
+            return Done {
+                card: self,
+                answer: answer,
+            };
+        }
+        let least = self.least;
+        let answer = Answer::Least(least);
+        Done {
+            card: self,
+            answer: answer,
+        }
+    }
+
+    pub fn withdraw(self) -> Done
+        ensures { λ d. ⌜ Answered self (firstGiven (withdrawTable self)) (withdrawn self) d ⌝ }
+    {
+        let number = why_withdraw(self);
+        if number != 0 {
+            let answer = Answer::Refused(number);
+            return Done {
+                card: self,
+                answer: answer,
+            };
+        }
+        let waiting = Waiting::Nothing;
+        let answer = Answer::Withdrawn;
+        let card = Card {
+            waiting: waiting,
+            ..self
+        };
+        Done {
+            card: card,
+            answer: answer,
+        }
+    }
+}
