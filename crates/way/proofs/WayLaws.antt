@@ -10,7 +10,7 @@ use lib.Seq.{length-take-le, drop-cons, getD-take, getD-drop}
 use Rattle.record.specs.declared.Record.{Record}
 use Rattle.record.specs.Standing.{dummy}
 use Rattle.record.specs.Words.{recordAt, records, wordsOf}
-use Rattle.record.proofs.WordsLaws.{records-at, records-count, records-long, words-records}
+use Rattle.record.proofs.WordsLaws.{records-at, records-count, records-long, records-take, records-drop, words-records}
 
 -- what is promised of the records of a whole way is promised of every word
 pub words-of : (ws ws′ : List ℕ) (n : ℕ) (rs : List Record) → length ws ≡ 4 * n → length ws′ ≡ length ws → records ws′ ≡ rs
@@ -39,6 +39,16 @@ module _ (w : List ℕ) (from n : ℕ) (h : 4 * (from + n) ≤ length w) where
       let i : k < length (take n (drop from (records w))) = rw part-length l in
       let at = records-at w (from + k) dummy (omega arith) in
       rw (add-one k, drop-cons _ k dummy i, getD-take n (drop from (records w)) k dummy l, getD-drop, at)
+
+-- the same part of the words
+pub part-records : (w : List ℕ) (from n : ℕ) → records (take (4 * n) (drop (4 * from) w)) ≡ take n (drop from (records w))
+part-records w from n = rw (records-take (drop (4 * from) w) n, records-drop w from)
+
+pub part-words : (w : List ℕ) (from n : ℕ) → 4 * (from + n) ≤ length w
+    → wordsOf (take n (drop from (records w))) ≡ take (4 * n) (drop (4 * from) w)
+part-words w from n h =
+    let size = length-take-le (4 * n) (drop (4 * from) w) (omega (arith, length-drop (4 * from) w)) in
+    rw (← part-records w from n) (words-records _ n size)
 
 -- level d stands behind level d - 1
 pub level-before : (z d : ℕ) → 1 ≤ d → z * d ≡ z * (d - 1) + z

@@ -31,7 +31,9 @@ loop-less c = search needs
 
 loop-again : tie.Need-loop-again Inv-loop μ-loop
 loop-again c =
-    evicting-turns _ _ _ _ _ _ _ _ (c .before .before .before .before .before .loop .inv) _ (c .before .before .before .before .loop-test .taken) (c .before .before .fill-level .kept .0) (c .before .before .fill-level .ensures)
+    let turn = c .before .before .before .before in
+    let filled = c .before .before .fill-level in
+    evicting-turns _ _ _ _ _ _ _ _ (turn .before .loop .inv) _ (turn .loop-test .taken) (filled .kept .0) (filled .ensures)
 
 same-length : tie.Need-same-length Inv-loop μ-loop
 same-length c = c .before .loop .inv .room

@@ -29,7 +29,9 @@ loop-less c = search needs
 
 loop-again : tie.Need-loop-again Inv-loop μ-loop
 loop-again c =
-    filling-turns _ _ _ _ _ _ (c .before .before .before .before .before .loop .inv) _ (c .before .before .before .before .loop-test .taken) (c .before .before .pull .kept .0) (c .before .before .pull .ensures)
+    let turn = c .before .before .before .before in
+    let pulled = c .before .before .pull in
+    filling-turns _ _ _ _ _ _ (turn .before .loop .inv) _ (turn .loop-test .taken) (pulled .kept .0) (pulled .ensures)
 
 same-length : tie.Need-same-length Inv-loop μ-loop
 same-length c = c .before .loop .inv .room

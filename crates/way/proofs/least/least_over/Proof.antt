@@ -36,7 +36,10 @@ loop-less c = search needs
 
 loop-again : tie.Need-loop-again Inv-loop μ-loop
 loop-again c =
-    (omega arith, c .smaller .ensures ∙ rw (c .before .read .ensures) (over-turns _ _ _ (c .before .before .before .before .before .pre) _ _ _ (c .before .before .loop-test .taken) (c .before .before .before .loop .inv .0) (c .before .before .before .loop .inv .1)))
+    let turn = c .before .before in
+    let known = turn .before .loop .inv in
+    let turns = over-turns _ _ _ (turn .before .before .before .pre) _ _ _ (turn .loop-test .taken) (known .0) (known .1) in
+    (omega arith, c .smaller .ensures ∙ rw (c .before .read .ensures) turns)
 
 returns : tie.Need-returns Inv-loop μ-loop
 returns c =
