@@ -1,0 +1,4 @@
+-- The laws of the work that crates above cite.
+pub mod WorkLaws
+pub mod BesideLaws
+pub mod PairLaws

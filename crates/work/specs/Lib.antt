@@ -1,0 +1,2 @@
+-- The work of a finish, worked out and not yet written.
+pub mod Work

@@ -1,0 +1,101 @@
+-- The work of a finish: document 01, "A request, step by step". It is defined on ways and on the least records beside
+-- them, so that a whole tree and fetched words are worked on by one rule. Assumes nothing.
+use Prim.Native.Nat.{ℕ, _+_, _*_, _-_, _≤_}
+use mathlib.Core.Bool.{cond}
+use mathlib.Core.List.{List, _++_}
+use mathlib.Core.Path.{_≡_}
+use lib.Dec.{ltb, eqb}
+use lib.ListN.{length, set}
+use Rattle.record.specs.declared.Leaf.{Leaf}
+use Rattle.record.specs.declared.Record.{Record}
+use Rattle.record.specs.Standing.{isDummy}
+use Rattle.record.specs.Order.{leastOf}
+use Rattle.record.specs.Words.{records}
+use Rattle.path.specs.declared.sizes.Sizes.{Sizes}
+use Rattle.path.specs.Layout.{Contents}
+use Rattle.way.specs.Evict.{seek, evict}
+use Rattle.way.specs.Least.{slotsAt, rootSlots, kids, mendedAt, mended}
+use Rattle.gather.specs.Shown.{siblingAt}
+use Rattle.mend.specs.Mended.{pathWords, MendRoom}
+
+-- One path, evicted and mended: `beside d` is the least record of the sibling at level d.
+module _ (s : Sizes) (q : Leaf) (beside : ℕ → Record) (way : List Record) where
+  -- "Then the path is evicted."
+  abbrev pub evicted : List Record
+  evicted = evict (s .h) (s .z) (s .r) q way
+
+  abbrev pub slotsAfter : ℕ → List Record
+  slotsAfter = slotsAt (s .r) (s .z) evicted
+
+  -- "Least records of the evicted paths are then worked out from the leaf up": the path's buckets at levels 1 to h
+  unfoldable pub pathBuckets : List Contents
+  pathBuckets = mended (s .h) q slotsAfter beside
+
+  -- the root's slots, and its least record, "the root last"
+  unfoldable pub rootAfter : List Record
+  rootAfter = rootSlots (s .r) evicted
+
+  unfoldable pub leastAfter : Record
+  leastAfter = leastOf (rootSlots (s .r) evicted) (kids (s .h) q slotsAfter beside (s .h))
+
+-- what the work on one path leaves in the scratches of its way and of its buckets, and its answer
+pub record PathWorked (s : Sizes) (q : Leaf) (beside : ℕ → Record) (way : List Record) (w path : List ℕ) (x : Record) : Type 0 where
+  pub after : records w ≡ evicted s q beside way
+  pub buckets : path ≡ pathWords (pathBuckets s q beside way)
+  pub least : x ≡ leastAfter s q beside way
+
+-- ---- Insert
+-- "puts the record .. into the lowest dummy slot of the root": the first r places of its way. A root without one is
+-- refused at begin (10).
+unfoldable pub seated : ℕ → Record → List Record → List Record
+seated r new way = cond (ltb (seek isDummy r way) r) (set way (seek isDummy r way) new) way
+
+-- "then evicts the first path, then the second". The paths share the root alone, so the first path's least records may be
+-- worked out before the second is evicted.
+module _ (s : Sizes) (first second : Leaf) (new : Record) (beside₁ beside₂ : ℕ → Record) (way slots₂ : List Record) where
+  -- the first way, with the record in its root
+  abbrev pub firstWay : List Record
+  firstWay = seated (s .r) new way
+
+  abbrev pub firstBuckets : List Contents
+  firstBuckets = pathBuckets s first beside₁ firstWay
+
+  -- the second: what the first left in the root, then the second path's slots
+  abbrev pub secondWay : List Record
+  secondWay = rootAfter s first beside₁ firstWay ++ slots₂
+
+  -- the sibling of the second path's bucket at level 1 is the first path's
+  abbrev pub topFirst : Record
+  topFirst = mendedAt (s .h) first (slotsAfter s first beside₁ firstWay) beside₁ 1 .least
+
+  abbrev pub secondBeside : ℕ → Record
+  secondBeside d = cond (eqb d 1) topFirst (beside₂ d)
+
+  abbrev pub secondBuckets : List Contents
+  secondBuckets = pathBuckets s second secondBeside secondWay
+
+-- the siblings of an Insert's second path from level 2 on: behind both paths' whole buckets and the first path's siblings
+abbrev pub secondSiblings : Sizes → List ℕ → ℕ → Record
+secondSiblings s ws d = siblingAt (s .z) ws (2 * s .h) (s .h - 1 + (d - 2))
+
+-- what the work on an Insert's two paths leaves in the scratches of the way and of each path's buckets, and its answer
+pub record PairWorked
+    (s : Sizes) (first second : Leaf) (new : Record) (beside₁ beside₂ : ℕ → Record) (way slots₂ : List Record)
+    (w path₁ path₂ : List ℕ) (x : Record) : Type 0 where
+  pub after :
+      records w
+      ≡ evicted s second (secondBeside s first second new beside₁ beside₂ way slots₂)
+      (secondWay s first second new beside₁ beside₂ way slots₂)
+  pub firstWords : path₁ ≡ pathWords (firstBuckets s first second new beside₁ beside₂ way slots₂)
+  pub secondWords : path₂ ≡ pathWords (secondBuckets s first second new beside₁ beside₂ way slots₂)
+  pub least :
+      x
+      ≡ leastAfter s second (secondBeside s first second new beside₁ beside₂ way slots₂)
+      (secondWay s first second new beside₁ beside₂ way slots₂)
+
+-- what is asked: the room of one path for each, and the fetched words of both
+pub record PairRoom (s : Sizes) (first second : Leaf) (path₁ path₂ w beside words : List ℕ) : Type 0 where
+  pub some : 1 ≤ s .h
+  pub one : MendRoom s first path₁ w beside
+  pub two : MendRoom s second path₂ w beside
+  pub fetched : 4 * (2 * s .h * (s .z + 1) + 2 * (s .h - 1)) ≤ length words
