@@ -2,3 +2,4 @@
 pub mod WorkLaws
 pub mod BesideLaws
 pub mod PairLaws
+pub mod ShownLaws

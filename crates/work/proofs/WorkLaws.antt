@@ -1,8 +1,9 @@
 -- The work on one path, step by step: evicted, mended, and the root last. Assumes nothing.
 use Prim.Native.Nat.{ℕ}
-use mathlib.Core.List.{List}
+use mathlib.Core.Bool.{Bool}
+use mathlib.Core.List.{List, _++_}
 use mathlib.Core.Path.{_≡_, ap, _∙_}
-use lib.ListN.{take}
+use lib.ListN.{take, drop}
 use Rattle.record.specs.declared.Leaf.{Leaf}
 use Rattle.record.specs.declared.Record.{Record}
 use Rattle.record.specs.Words.{records}
@@ -11,7 +12,10 @@ use Rattle.way.specs.Evict.{evict}
 use Rattle.way.specs.Least.{over}
 use Rattle.way.proofs.LeastLaws.{smallest-over}
 use Rattle.mend.specs.Mended.{besideAt, Mended}
-use Rattle.work.specs.Work.{pathBuckets, leastAfter, PathWorked}
+use Rattle.gather.specs.Removal.{Cleared}
+use Rattle.gather.proofs.RemovalLaws.{cleared-records}
+use Rattle.work.specs.declared.removal.Removed.{Removed}
+use Rattle.work.specs.Work.{pathBuckets, rootAfter, leastAfter, PathWorked, PathRemoved}
 
 pub path-worked :
     (s : Sizes) (q : Leaf) (B way : List Record) (w path : List ℕ) (kids x : Record)
@@ -23,4 +27,20 @@ path-worked s q B way w path kids x e m l =
       after = e;
       buckets = rw (← e) (m .words);
       least = rw (← e, smallest-over) (l ∙ ap (over (take (s .r) (records w))) (m .children));
+    }
+
+-- ---- a removal: cleared, worked on, and the root saved
+pub path-removed :
+    (s : Sizes) (q : Leaf) (f : Record → Bool) (sibs slots : List Record) (w₀ w₁ w₂ path : List ℕ) (out : Removed)
+    → Cleared f w₀ w₁ (out .found) → PathWorked s q (besideAt sibs) (records w₁) w₂ path (out .least)
+    → out .root ≡ take (s .r) (records w₂) ++ drop (s .r) slots
+    → PathRemoved s q f sibs (records w₀) slots path out
+unfolding rootAfter
+path-removed s q f sibs slots w₀ w₁ w₂ path out c p e =
+    let p′ = rw (cleared-records f w₀ w₁ (out .found) c) at p in
+    record {
+      finds = c .answered;
+      root = e ∙ ap (λ (l : List Record). take (s .r) l ++ drop (s .r) slots) (p′ .after);
+      least = p′ .least;
+      buckets = p′ .buckets;
     }

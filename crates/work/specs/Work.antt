@@ -1,11 +1,11 @@
 -- The work of a finish: document 01, "A request, step by step". It is defined on ways and on the least records beside
 -- them, so that a whole tree and fetched words are worked on by one rule. Assumes nothing.
 use Prim.Native.Nat.{ℕ, _+_, _*_, _-_, _≤_}
-use mathlib.Core.Bool.{cond}
+use mathlib.Core.Bool.{Bool, cond}
 use mathlib.Core.List.{List, _++_}
 use mathlib.Core.Path.{_≡_}
 use lib.Dec.{ltb, eqb}
-use lib.ListN.{length, set}
+use lib.ListN.{length, drop, set}
 use Rattle.record.specs.declared.Leaf.{Leaf}
 use Rattle.record.specs.declared.Record.{Record}
 use Rattle.record.specs.Standing.{isDummy}
@@ -15,8 +15,10 @@ use Rattle.path.specs.declared.sizes.Sizes.{Sizes}
 use Rattle.path.specs.Layout.{Contents}
 use Rattle.way.specs.Evict.{seek, evict}
 use Rattle.way.specs.Least.{slotsAt, rootSlots, kids, mendedAt, mended}
-use Rattle.gather.specs.Shown.{siblingAt}
-use Rattle.mend.specs.Mended.{pathWords, MendRoom}
+use Rattle.gather.specs.Removal.{found, removed}
+use Rattle.gather.specs.Shown.{siblingAt, siblingsShown, wayShown}
+use Rattle.mend.specs.Mended.{pathWords, besideAt, MendRoom}
+use Rattle.work.specs.declared.removal.Removed.{Removed}
 
 -- One path, evicted and mended: `beside d` is the least record of the sibling at level d.
 module _ (s : Sizes) (q : Leaf) (beside : ℕ → Record) (way : List Record) where
@@ -99,3 +101,39 @@ pub record PairRoom (s : Sizes) (first second : Leaf) (path₁ path₂ w beside 
   pub one : MendRoom s first path₁ w beside
   pub two : MendRoom s second path₂ w beside
   pub fetched : 4 * (2 * s .h * (s .z + 1) + 2 * (s .h - 1)) ≤ length words
+
+-- ---- ExtractMin and Delete: the way and the siblings' least records that card and fetched words show
+pub record PathShown (s : Sizes) (root : List Record) (ws w sibs : List ℕ) : Type 0 where
+  pub way : records w ≡ wayShown (s .h) (s .z) (s .r) root ws 0
+  pub siblings : records sibs ≡ siblingsShown (s .z) ws (s .h) 0 (s .h)
+
+-- room for them: scratches just as long, and the fetched words
+pub record PathRoom (s : Sizes) (ws w sibs : List ℕ) : Type 0 where
+  pub roots : s .r ≤ 64
+  pub width : s .z ≤ 5
+  pub slots : length w ≡ 4 * (s .r + s .z * s .h)
+  pub siblings : length sibs ≡ 4 * s .h
+  pub fetched : 4 * (s .h * (s .z + 1) + s .h) ≤ length ws
+
+-- the work of ExtractMin and Delete on a way: the record that passes is replaced by the dummy, or none is, and the path is
+-- worked on. `sibs` are the siblings' least records from level 1 on.
+module _ (s : Sizes) (q : Leaf) (f : Record → Bool) (sibs way : List Record) where
+  abbrev pub removalBuckets : List Contents
+  removalBuckets = pathBuckets s q (besideAt sibs) (removed f way)
+
+  abbrev pub removalRoot : List Record
+  removalRoot = rootAfter s q (besideAt sibs) (removed f way)
+
+  abbrev pub removalLeast : Record
+  removalLeast = leastAfter s q (besideAt sibs) (removed f way)
+
+-- the card's root of 64 places, its first R replaced
+abbrev pub rooted : ℕ → List Record → List Record → List Record
+rooted r slots root = slots ++ drop r root
+
+pub record PathRemoved
+    (s : Sizes) (q : Leaf) (f : Record → Bool) (sibs way slots : List Record) (path : List ℕ) (out : Removed) : Type 0 where
+  pub finds : out .found ≡ found f way
+  pub root : out .root ≡ rooted (s .r) (removalRoot s q f sibs way) slots
+  pub least : out .least ≡ removalLeast s q f sibs way
+  pub buckets : path ≡ pathWords (removalBuckets s q f sibs way)

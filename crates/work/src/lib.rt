@@ -2,10 +2,15 @@
 // it stands". Nothing is written here but scratches, so that all is known before the first word changes.
 // Stands on `record`, `path`, `way`, `gather`, `mend`.
 mod pair;
+mod removal;
 mod seating;
+mod shown;
 
 pub use pair::work_pair;
+pub use removal::Removed;
+pub use removal::remove_path;
 pub use seating::seat;
+pub use shown::show_path;
 ghost use Prim.Native.Nat.{_≤_};
 ghost use mathlib.Core.Path.{_≡_};
 ghost use Rattle.record.specs.Words.{records};

@@ -1,0 +1,43 @@
+use borrow.Author.Needs.{needs}
+use native.Mathlib.Omega.{arith}
+use Rattle.record.specs.Words.{records}
+use Rattle.gather.specs.Removal.{named}
+use Rattle.work.proofs.WorkLaws.{path-removed}
+use Rattle.work.proofs.removal.remove_path.Statement.{statement}
+use Rattle.work.proofs.removal.remove_path.Tie as tie
+use Rattle.work.proofs.removal.remove_path.Reads as reads
+use Rattle.work.proofs.removal.remove_path.Lts as lts
+use Rattle.gather.proofs.clear.Reads as clear-reads
+use Rattle.gather.proofs.save_root.Reads as save-root-reads
+use Rattle.work.proofs.work_path.Reads as work-path-reads
+
+clear-requires : tie.Need-clear-requires
+clear-requires c κs = search needs
+
+work-path-requires : tie.Need-work-path-requires
+work-path-requires c κs = search needs
+
+save-root-requires : tie.Need-save-root-requires
+save-root-requires c κs = search needs
+
+same-length : tie.Need-same-length
+same-length c = search needs
+
+same-length-2 : tie.Need-same-length-2
+same-length-2 c = search needs
+
+returns : tie.Need-returns
+returns c =
+        let s = c .before .before .before .before .before .before .before .before .before .before .before .before .before .before .before .before .args in
+        path-removed (s .sizes) (s .label) (named (s .label) (s .stamp)) (records (s .sibs .now)) (s .root) (s .w .now) _ _ _ _ (c .before .before .before .before .before .before .before .before .before .before .before .clear .ensures) (c .before .before .before .before .before .before .work-path .ensures) (c .save-root .ensures)
+
+pub remove-path-spec : {M : Type 1} → statement M
+remove-path-spec =
+    tie.close
+    (tie.spec
+    clear-requires
+    work-path-requires
+    save-root-requires
+    same-length
+    same-length-2
+    returns)

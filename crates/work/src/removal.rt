@@ -1,0 +1,44 @@
+// The work of ExtractMin and Delete: document 01, "ExtractMin replaces the root's least record, wherever it is on the path,
+// by the dummy; Delete does so with the record that has this label and stamp, or answers Absent and removes nothing. Then
+// the path is evicted."
+ghost use Prim.Native.Nat.{_≤_};
+ghost use Rattle.record.specs.Words.{records};
+ghost use Rattle.gather.specs.Removal.{named};
+ghost use Rattle.mend.specs.Mended.{MendRoom};
+ghost use Rattle.work.specs.Work.{PathRemoved};
+use crate::work_path;
+use path::Sizes;
+use record::Leaf;
+use record::Record;
+use record::Stamp;
+
+// What a removal makes of the card's root, and whether the record was there.
+pub struct Removed {
+    pub root: [Record; 64],
+    pub least: Record,
+    pub found: bool,
+}
+
+// For crates above: the record is removed from the way in `w`, and the path worked on; its buckets are laid in `path`.
+pub fn remove_path(
+    w: &mut [u64],
+    sibs: &[u64],
+    path: &mut [u64],
+    root: [Record; 64],
+    sizes: Sizes,
+    label: Leaf,
+    stamp: Stamp,
+) -> Removed
+    requires { ⌜ (MendRoom sizes label (now path) (now w) (now sibs)) × (sizes .r ≤ 64) ⌝ }
+    ensures { λ out. ⌜ PathRemoved sizes label (named label stamp) (records (now (sibs .entry))) (records (now (w .entry))) root (now (path .exit)) out ⌝ }
+{
+    let found = gather::clear(w, label, stamp);
+    let least = work_path(w, sibs, path, sizes, label);
+    let r = sizes.r as usize;
+    let next = gather::save_root(w, root, r);
+    Removed {
+        root: next,
+        least: least,
+        found: found,
+    }
+}
