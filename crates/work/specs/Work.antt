@@ -2,13 +2,13 @@
 -- them, so that a whole tree and fetched words are worked on by one rule. Assumes nothing.
 use Prim.Native.Nat.{ℕ, _+_, _*_, _-_, _≤_}
 use mathlib.Core.Bool.{Bool, cond}
-use mathlib.Core.List.{List, _++_}
+use mathlib.Core.List.{List, _∷_, _++_}
 use mathlib.Core.Path.{_≡_}
 use lib.Dec.{ltb, eqb}
 use lib.ListN.{length, drop, set}
 use Rattle.record.specs.declared.Leaf.{Leaf}
 use Rattle.record.specs.declared.Record.{Record}
-use Rattle.record.specs.Standing.{isDummy}
+use Rattle.record.specs.Standing.{dummy, isDummy}
 use Rattle.record.specs.Order.{leastOf}
 use Rattle.record.specs.Words.{records}
 use Rattle.path.specs.declared.sizes.Sizes.{Sizes}
@@ -137,3 +137,32 @@ pub record PathRemoved
   pub root : out .root ≡ rooted (s .r) (removalRoot s q f sibs way) slots
   pub least : out .least ≡ removalLeast s q f sibs way
   pub buckets : path ≡ pathWords (removalBuckets s q f sibs way)
+
+-- ---- Insert: the first path's way, each path's siblings, and the slots of both paths behind the root's. No sibling is
+-- fetched at level 1, where each path's sibling is the other path; the dummy stands in its place.
+abbrev pub belowFirst : Sizes → List ℕ → ℕ → List Record
+belowFirst s ws skip = dummy ∷ siblingsShown (s .z) ws (2 * s .h) skip (s .h - 1)
+
+pub record SiblingRoom (s : Sizes) (skip : ℕ) (ws sibs : List ℕ) : Type 0 where
+  pub some : 1 ≤ s .h
+  pub height : s .h ≤ 16
+  pub width : s .z ≤ 5
+  pub siblings : length sibs ≡ 4 * s .h
+  pub fetched : 4 * (2 * s .h * (s .z + 1) + skip + (s .h - 1)) ≤ length ws
+
+pub record PairShown (s : Sizes) (root : List Record) (ws w one two all : List ℕ) : Type 0 where
+  pub way : records w ≡ wayShown (s .h) (s .z) (s .r) root ws 0
+  pub first : records one ≡ belowFirst s ws 0
+  pub second : records two ≡ belowFirst s ws (s .h - 1)
+  pub slots : records all ≡ wayShown (2 * s .h) (s .z) (s .r) root ws 0
+
+pub record PairShownRoom (s : Sizes) (ws w one two all : List ℕ) : Type 0 where
+  pub some : 1 ≤ s .h
+  pub height : s .h ≤ 16
+  pub roots : s .r ≤ 64
+  pub width : s .z ≤ 5
+  pub ways : length w ≡ 4 * (s .r + s .z * s .h)
+  pub ones : length one ≡ 4 * s .h
+  pub twos : length two ≡ 4 * s .h
+  pub alls : length all ≡ 4 * (s .r + s .z * (2 * s .h))
+  pub fetched : 4 * (2 * s .h * (s .z + 1) + 2 * (s .h - 1)) ≤ length ws

@@ -1,5 +1,7 @@
 // What card and fetched words show, in scratches: document 01, "Finish takes the fetched words in list order."
-ghost use Rattle.work.specs.Work.{PathRoom, PathShown};
+ghost use mathlib.Core.Path.{_≡_};
+ghost use Rattle.record.specs.Words.{records};
+ghost use Rattle.work.specs.Work.{PathRoom, PathShown, SiblingRoom, belowFirst, PairShownRoom, PairShown};
 use path::Sizes;
 use record::Record;
 
@@ -13,4 +15,38 @@ pub fn show_path(w: &mut [u64], sibs: &mut [u64], root: [Record; 64], words: &[u
     gather::load_root(w, root, r);
     gather::load_path(w, words, 0, sizes);
     gather::load_siblings(sibs, words, h, 0, 1, sizes);
+}
+
+// One of an Insert's paths' siblings from level 2 on, `skip` siblings behind the whole buckets of both.
+fn show_siblings(sibs: &mut [u64], words: &[u64], skip: usize, sizes: Sizes)
+    requires { ⌜ SiblingRoom sizes skip (now words) (now sibs) ⌝ }
+    ensures { λ _. ⌜ records (now (sibs .exit)) ≡ belowFirst sizes (now (words .entry)) skip ⌝ }
+{
+    let h = sizes.h as usize;
+    Record::DUMMY.write(sibs, 0);
+    gather::load_siblings(sibs, words, 2 * h, skip, 2, sizes);
+}
+
+// For crates above: what an Insert looks at and works on.
+pub fn show_pair(
+    w: &mut [u64],
+    one: &mut [u64],
+    two: &mut [u64],
+    all: &mut [u64],
+    root: [Record; 64],
+    words: &[u64],
+    sizes: Sizes,
+)
+    requires { ⌜ PairShownRoom sizes (now words) (now w) (now one) (now two) (now all) ⌝ }
+    ensures { λ _. ⌜ PairShown sizes root (now (words .entry)) (now (w .exit)) (now (one .exit)) (now (two .exit)) (now (all .exit)) ⌝ }
+{
+    let r = sizes.r as usize;
+    let h = sizes.h as usize;
+    let z = sizes.z as usize;
+    gather::load_root(w, root, r);
+    gather::load_path(w, words, 0, sizes);
+    show_siblings(one, words, 0, sizes);
+    show_siblings(two, words, h - 1, sizes);
+    gather::load_root(all, root, r);
+    gather::load_slots(all, r, words, 0, 2 * h, z);
 }
