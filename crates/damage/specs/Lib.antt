@@ -1,2 +1,4 @@
--- Damaged, clause by clause.
+-- Damaged, clause by clause, and put together.
 pub mod Damage
+pub mod Damaged
+pub mod Room

@@ -1,0 +1,7 @@
+-- Laws of Damaged: what crates above may use, and what the loops that check have seen so far.
+pub mod SoundLaws
+pub mod DamagedLaws
+pub mod FetchedLaws
+pub mod OnceLaws
+pub mod Found
+pub mod Checking

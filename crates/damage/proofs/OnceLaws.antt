@@ -1,0 +1,43 @@
+-- Where no stamp stands twice, a record is known by its stamp. Assumes nothing.
+use Prim.Native.Nat.{ℕ, zero, suc, _<_}
+use mathlib.Core.Bool.{Bool, true, false, not, _&&_, _||_, true≢false}
+use mathlib.Core.List.{List, [], _∷_, List·Memᴰ, List·Memᴰ·head, List·Memᴰ·tail}
+use mathlib.Core.Logic.{inl, inr}
+use mathlib.Core.Path.{_≡_, refl, sym, _∙_}
+use mathlib.Mathlib.Data.Bool.Basic.{dichotomy}
+use native.Mathlib.Omega.{arith}
+use lib.ListN.{length, getD}
+use Rattle.record.specs.declared.Record.{Record}
+use Rattle.record.specs.Standing.{isDummy}
+use Rattle.record.specs.Many.{every, bears, stampTwice}
+use Rattle.record.proofs.ManyLaws.{every-each, bears-own, twice-here}
+
+-- the first of some shares its stamp with none of the others
+once-apart : (z : Record) (zs : List Record) {y : Record} → stampTwice (z ∷ zs) ≡ false → isDummy z ≡ false → List·Memᴰ y zs
+    → isDummy y ≡ false → y .stamp .0 ≡ z .stamp .0 → ⊥
+once-apart z zs {y} once real m other e = elim (dichotomy (every (λ x. not (bears (z .stamp) x)) zs)) [
+  | inl f ↦ true≢false (sym (twice-here z zs real (rw f)) ∙ once)
+  | inr t ↦ true≢false (sym (rw (bears-own (z .stamp) y other e) at (every-each (λ x. not (bears (z .stamp) x)) t m)))
+]
+
+once-later : (z : Record) (zs : List Record) → stampTwice (z ∷ zs) ≡ false → stampTwice zs ≡ false
+unfolding stampTwice
+once-later z zs once = either (not (isDummy z) && not (every (λ y. not (bears (z .stamp) y)) zs)) (stampTwice zs) once
+  where
+    either : (a b : Bool) → (a || b) ≡ false → b ≡ false
+    either false b e = e
+    either true b e = absurd (true≢false e)
+
+pub stamp-once : {x y : Record} {w : List Record} → stampTwice w ≡ false → List·Memᴰ x w → List·Memᴰ y w → isDummy x ≡ false
+    → isDummy y ≡ false → x .stamp .0 ≡ y .stamp .0 → x ≡ y
+stamp-once once (List·Memᴰ·head e) (List·Memᴰ·head f) rx ry s = e ∙ sym f
+stamp-once once (List·Memᴰ·head {x = z} {xs = zs} e) (List·Memᴰ·tail n) rx ry s =
+    absurd (once-apart z zs once (rw e at rx) n ry (sym (rw e at s)))
+stamp-once once (List·Memᴰ·tail m) (List·Memᴰ·head {x = z} {xs = zs} f) rx ry s =
+    absurd (once-apart z zs once (rw f at ry) m rx (rw f at s))
+stamp-once once (List·Memᴰ·tail {x = z} {xs = zs} m) (List·Memᴰ·tail n) rx ry s = stamp-once (once-later z zs once) m n rx ry s
+
+pub get-in : (l : List Record) (i : ℕ) (d : Record) → i < length l → List·Memᴰ (getD l i d) l
+get-in [] i d h = absurd (omega arith)
+get-in (x ∷ xs) zero d h = List·Memᴰ·head refl
+get-in (x ∷ xs) (suc i) d h = List·Memᴰ·tail (get-in xs i d (omega arith))
