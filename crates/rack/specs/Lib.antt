@@ -1,0 +1,6 @@
+-- What a reader must believe of the rack.
+pub mod Refusals
+pub mod Answers
+pub mod Copy
+pub mod Promises
+pub mod BucketAt
