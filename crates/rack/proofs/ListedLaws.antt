@@ -17,7 +17,7 @@ use Rattle.path.specs.Layout.{treeWords}
 use Rattle.path.specs.BucketList.{BucketList, pairList, pathList, numbers, laid, counts}
 use Rattle.path.proofs.PathLaws.{path-in-tree, sibling-in-tree, levels-apart, pair-apart}
 use Rattle.path.proofs.Naming.{path-named, siblings-named}
-use Rattle.rack.specs.Refusals.{firstRefusal}
+use Rattle.refusal.specs.Refusal.{firstGiven}
 use Rattle.rack.specs.Answers.{wordsFor, outside, anyOutside, copyTable}
 use Rattle.rack.specs.Copy.{listed}
 use Rattle.rack.proofs.RefusalLaws.{not-outside, neither, passes-copy}
@@ -55,7 +55,7 @@ module _ (l : BucketList) (places : List ℕ) where
   pub laid-passes :
       (h z tree words : ℕ) → treeIn h z ≡ true → tree ≡ treeWords h z → anyOutside h (numbers l) ≡ false
       → wordsFor z (counts l .whole) (counts l .least) ≤ words
-      → firstRefusal (copyTable h z tree (laid l places) (counts l .whole) (counts l .least) words) ≡ 0
+      → firstGiven (copyTable h z tree (laid l places) (counts l .whole) (counts l .least) words) ≡ 0
   laid-passes h z tree words sizes whole-tree inside room =
       passes-copy h z tree (laid l places) (counts l .whole) (counts l .least) words
       (record {

@@ -17,7 +17,8 @@ use Rattle.path.specs.Sizes.{leavesOf}
 use Rattle.path.specs.Layout.{recordWords, bucketWords, bucketStart, treeWords, freshTree}
 use Rattle.path.specs.BucketList.{BucketList}
 use Rattle.rack.specs.Copy.{bucketPart, leastPart, fetchedWords, stored, Stands, AllStand}
-use Rattle.rack.specs.BucketAt.{Contents, contentsOf, recordsIn, bucketAt}
+use Rattle.path.specs.Layout.{Contents}
+use Rattle.rack.specs.BucketAt.{contentsOf, recordsIn, bucketAt}
 use Rattle.rack.proofs.PartLaws.{part-replicate}
 use Rattle.rack.proofs.LayoutLaws.{part-length}
 use Rattle.rack.proofs.StoreLaws.{Distinct, stored-other, stored-last, stored-each}

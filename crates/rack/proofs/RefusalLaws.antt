@@ -1,7 +1,7 @@
 -- The refusals: what each test of the tables tells, and what stands fast where none applies. Assumes nothing.
 use Prim.Native.Nat.{ℕ, _+_, _*_, _-_, _/_, _≤_, _<_}
 use mathlib.Core.Bool.{Bool, true, false, _||_, true≢false}
-use mathlib.Core.List.{List, _∷_}
+use mathlib.Core.List.{List}
 use mathlib.Core.Path.{_≡_, refl, sym}
 use native.Mathlib.Omega.{arith}
 use native.Mathlib.Nat.{div-lt-iff-lt-mul, le-div-iff-mul-le}
@@ -14,7 +14,8 @@ use borrow.Author.Tests.{ltb-true, ltb-false, lt-ltb, le-ltb, le-leb, lt-leb, eq
 use Rattle.path.specs.Sizes.{between, leavesOf, treeIn}
 use Rattle.path.specs.Layout.{bucketWords, treeWords}
 use Rattle.path.proofs.SizesLaws.{between-true}
-use Rattle.rack.specs.Refusals.{firstRefusal}
+use Rattle.refusal.specs.Refusal.{firstGiven}
+use Rattle.refusal.proofs.RefusalLaws.{none-given}
 use Rattle.rack.specs.Answers.{badSize, otherTree, overCounted, wordsFor, fewWords, outside, anyOutside, fillTable, copyTable}
 
 -- ---- words too few, by division
@@ -81,14 +82,6 @@ unfolding anyOutside
 none-outside h list i l = rw (drop-of-length-le list {i = i} l)
 
 -- ---- no refusal
--- a table of which nothing applies
-first-passes :
-    (n : ℕ) (t : Bool) (rows : List (ℕ × Bool)) → (n ≡ 0 → ⊥) → firstRefusal ((n, t) ∷ rows) ≡ 0
-    → (t ≡ false) × (firstRefusal rows ≡ 0)
-unfolding firstRefusal
-first-passes n true rows some e = absurd (some e)
-first-passes n false rows some e = (refl, e)
-
 pub record TreePasses (h z tree : ℕ) : Type 0 where
   pub sizes : treeIn h z ≡ true
   pub whole-tree : tree ≡ treeWords h z
@@ -103,21 +96,21 @@ module _ (h z tree : ℕ) where
   tree-passes : badSize h z ≡ false → otherTree h z tree ≡ false → TreePasses h z tree
   tree-passes s t = record { sizes = not-false _ s; whole-tree = eqb-true _ _ (not-false _ t) }
 
-  pub fill-passes : firstRefusal (fillTable h z tree) ≡ 0 → TreePasses h z tree
+  pub fill-passes : firstGiven (fillTable h z tree) ≡ 0 → TreePasses h z tree
   fill-passes e =
-      let (s, e₁) = first-passes 1 (badSize h z) _ (omega arith) e in
-      let (t, e₂) = first-passes 11 (otherTree h z tree) _ (omega arith) e₁ in
+      let (s, e₁) = none-given 1 (badSize h z) _ (omega arith) e in
+      let (t, e₂) = none-given 11 (otherTree h z tree) _ (omega arith) e₁ in
       tree-passes s t
 
   module _ (list : List ℕ) (whole least words : ℕ) where
     pub copy-passes :
-        firstRefusal (copyTable h z tree list whole least words) ≡ 0 → CopyPasses h z tree list whole least words
+        firstGiven (copyTable h z tree list whole least words) ≡ 0 → CopyPasses h z tree list whole least words
     copy-passes e =
-        let (s, e₁) = first-passes 1 (badSize h z) _ (omega arith) e in
-        let (t, e₂) = first-passes 11 (otherTree h z tree) _ (omega arith) e₁ in
-        let (c, e₃) = first-passes 11 (overCounted list whole least) _ (omega arith) e₂ in
-        let (f, e₄) = first-passes 11 (fewWords z whole least words) _ (omega arith) e₃ in
-        let (o, e₅) = first-passes 14 (anyOutside h (take (whole + least) list)) _ (omega arith) e₄ in
+        let (s, e₁) = none-given 1 (badSize h z) _ (omega arith) e in
+        let (t, e₂) = none-given 11 (otherTree h z tree) _ (omega arith) e₁ in
+        let (c, e₃) = none-given 11 (overCounted list whole least) _ (omega arith) e₂ in
+        let (f, e₄) = none-given 11 (fewWords z whole least words) _ (omega arith) e₃ in
+        let (o, e₅) = none-given 14 (anyOutside h (take (whole + least) list)) _ (omega arith) e₄ in
         record {
           passes = tree-passes s t;
           counted = ltb-false _ _ c;
@@ -126,8 +119,8 @@ module _ (h z tree : ℕ) where
         }
 
     pub passes-copy :
-        CopyPasses h z tree list whole least words → firstRefusal (copyTable h z tree list whole least words) ≡ 0
-    unfolding firstRefusal
+        CopyPasses h z tree list whole least words → firstGiven (copyTable h z tree list whole least words) ≡ 0
+    unfolding firstGiven
     passes-copy p =
         rw (
           p .passes .sizes,
@@ -139,8 +132,8 @@ module _ (h z tree : ℕ) where
 
 -- ---- the first refusal, where the tree is as it should be
 module _ {h z tree : ℕ} (p : TreePasses h z tree) (list : List ℕ) (whole least words : ℕ) where
-  pub refuses-counts : length list < whole + least → 11 ≡ firstRefusal (copyTable h z tree list whole least words)
-  unfolding firstRefusal
+  pub refuses-counts : length list < whole + least → 11 ≡ firstGiven (copyTable h z tree list whole least words)
+  unfolding firstGiven
   refuses-counts l =
       rw (
         p .sizes,
@@ -150,8 +143,8 @@ module _ {h z tree : ℕ} (p : TreePasses h z tree) (list : List ℕ) (whole lea
 
   module _ (counted : whole + least ≤ length list) where
     pub refuses-words :
-        fewWords z whole least words ≡ true → 11 ≡ firstRefusal (copyTable h z tree list whole least words)
-    unfolding firstRefusal
+        fewWords z whole least words ≡ true → 11 ≡ firstGiven (copyTable h z tree list whole least words)
+    unfolding firstGiven
     refuses-words f =
         rw (
           p .sizes,
@@ -162,8 +155,8 @@ module _ {h z tree : ℕ} (p : TreePasses h z tree) (list : List ℕ) (whole lea
 
     pub refuses-buckets :
         fewWords z whole least words ≡ false → anyOutside h (take (whole + least) list) ≡ true
-        → 14 ≡ firstRefusal (copyTable h z tree list whole least words)
-    unfolding firstRefusal
+        → 14 ≡ firstGiven (copyTable h z tree list whole least words)
+    unfolding firstGiven
     refuses-buckets f o =
         rw (
           p .sizes,

@@ -8,7 +8,7 @@ use Rattle.path.specs.Sizes.{between, leavesOf, treeIn}
 use Rattle.path.specs.Layout.{recordWords, bucketWords, treeWords}
 use Rattle.rack.specs.declared.Answer.{Answer}
 use Rattle.rack.specs.declared.Answer.the-variants.{Done, BadSize, ShortRoom, BadBucket}
-use Rattle.rack.specs.Refusals.{firstRefusal}
+use Rattle.refusal.specs.Refusal.{Refusal, row, firstGiven}
 
 -- the paper's number of an answer; no refusal is 0
 abbrev pub answerNumber : Answer → ℕ
@@ -48,21 +48,21 @@ anyOutside h [] = false
 anyOutside h (n ∷ ns) = outside h n || anyOutside h ns
 
 -- "On the rack: 1, 11, 14". Fill is given no list.
-abbrev pub fillTable : ℕ → ℕ → ℕ → List (ℕ × Bool)
-fillTable h z tree = (1, badSize h z) ∷ (11, otherTree h z tree) ∷ []
+abbrev pub fillTable : ℕ → ℕ → ℕ → List Refusal
+fillTable h z tree = row 1 (badSize h z) ∷ row 11 (otherTree h z tree) ∷ []
 
 -- "Fetch and store both check every number that the counts cover"
-abbrev pub copyTable : ℕ → ℕ → ℕ → List ℕ → ℕ → ℕ → ℕ → List (ℕ × Bool)
+abbrev pub copyTable : ℕ → ℕ → ℕ → List ℕ → ℕ → ℕ → ℕ → List Refusal
 copyTable h z tree list whole least words =
-    (1, badSize h z)
-    ∷ (11, otherTree h z tree)
-    ∷ (11, overCounted list whole least)
-    ∷ (11, fewWords z whole least words)
-    ∷ (14, anyOutside h (take (whole + least) list))
+    row 1 (badSize h z)
+    ∷ row 11 (otherTree h z tree)
+    ∷ row 11 (overCounted list whole least)
+    ∷ row 11 (fewWords z whole least words)
+    ∷ row 14 (anyOutside h (take (whole + least) list))
     ∷ []
 
 abbrev pub fillRefusal : ℕ → ℕ → List ℕ → ℕ
-fillRefusal h z tree = firstRefusal (fillTable h z (length tree))
+fillRefusal h z tree = firstGiven (fillTable h z (length tree))
 
 abbrev pub copyRefusal : ℕ → ℕ → List ℕ → List ℕ → ℕ → ℕ → List ℕ → ℕ
-copyRefusal h z tree list whole least words = firstRefusal (copyTable h z (length tree) list whole least (length words))
+copyRefusal h z tree list whole least words = firstGiven (copyTable h z (length tree) list whole least (length words))

@@ -5,12 +5,8 @@ use Rattle.record.specs.declared.Bucket.{Bucket}
 use Rattle.record.specs.declared.Record.{Record}
 use Rattle.record.specs.Standing.{dummy}
 use Rattle.record.specs.Words.{records}
+use Rattle.path.specs.Layout.{Contents}
 use Rattle.rack.specs.Copy.{bucketPart}
-
--- what stands in a bucket
-pub record Contents : Type 0 where
-  pub least : Record
-  pub slots : List Record
 
 -- "first its least record, then its slots"
 abbrev pub contentsOf : List Record → Contents

@@ -9,7 +9,7 @@ ghost use Rattle.rack.specs.Promises.{Fills, Fetches, Stores};
 
 mod copy;
 mod layout;
-mod refusal;
+mod refusing;
 
 use record::RECORD_WORDS;
 
@@ -45,7 +45,7 @@ impl Answer {
 pub fn fill(tree: &mut [u64], h: u64, z: u64) -> Answer
     ensures { λ r. ⌜ Fills h z (now (tree .entry)) r (now (tree .exit)) ⌝ }
 {
-    let answer = refusal::of_fill(h, z, tree.len());
+    let answer = refusing::of_fill(h, z, tree.len());
     if !answer.is_done() {
         return answer;
     }
@@ -65,7 +65,7 @@ pub fn fetch(
 ) -> Answer
     ensures { λ r. ⌜ Fetches h z (now (tree .entry)) (now (list .entry)) whole least (now (words .entry)) r (now (words .exit)) ⌝ }
 {
-    let answer = refusal::of_copy(h, z, tree.len(), list, whole, least, words.len());
+    let answer = refusing::of_copy(h, z, tree.len(), list, whole, least, words.len());
     if !answer.is_done() {
         return answer;
     }
@@ -96,7 +96,7 @@ pub fn store(
 ) -> Answer
     ensures { λ r. ⌜ Stores h z (now (tree .entry)) (now (list .entry)) whole least (now (words .entry)) r (now (tree .exit)) ⌝ }
 {
-    let answer = refusal::of_copy(h, z, tree.len(), list, whole, least, words.len());
+    let answer = refusing::of_copy(h, z, tree.len(), list, whole, least, words.len());
     if !answer.is_done() {
         return answer;
     }

@@ -46,11 +46,11 @@ siblings-shown s skip ws b₀ b₁ b₂ room one two =
     let k = siblings-length (s .z) ws (2 * s .h) skip (s .h - 1) in
     let l : length b₁ ≡ length b₀ = ap length one ∙ length-written b₀ 0 dummy in
     let long : length b₁ ≡ 4 * (1 + length (siblingsShown (s .z) ws (2 * s .h) skip (s .h - 1))) =
-      omega (arith, l, k, room .siblings, room .some) in
+    omega (arith, l, k, room .siblings, room .some) in
     let first : take 1 (records b₁) ≡ dummy ∷ [] =
-      ap (λ (b : List ℕ). take 1 (records b)) one
-      ∙ ap (take 1) (records-written b₀ 0 dummy (omega (arith, room .siblings, room .some)))
-      ∙ take-suc-set (records b₀) 0 dummy (omega (arith, records-count b₀, room .siblings, room .some)) in
+    ap (λ (b : List ℕ). take 1 (records b)) one
+    ∙ ap (take 1) (records-written b₀ 0 dummy (omega (arith, room .siblings, room .some)))
+    ∙ take-suc-set (records b₀) 0 dummy (omega (arith, records-count b₀, room .siblings, room .some)) in
     ap records (rw n at two)
     ∙ laid-last b₁ 1 (siblingsShown (s .z) ws (2 * s .h) skip (s .h - 1)) (omega arith) long
     ∙ ap (λ (f : List Record). f ++ siblingsShown (s .z) ws (2 * s .h) skip (s .h - 1)) first

@@ -2,7 +2,7 @@
 use borrow.Author.Needs.{needs}
 use mathlib.Core.Path.{_≡_, _∙_}
 use lib.ListN.{length}
-use Rattle.rack.specs.Refusals.{firstRefusal}
+use Rattle.refusal.specs.Refusal.{firstGiven}
 use Rattle.rack.specs.Answers.{fillTable}
 use Rattle.rack.proofs.LayoutLaws.{tree-records}
 use Rattle.rack.proofs.RefusalLaws.{fill-passes}
@@ -10,7 +10,7 @@ use Rattle.rack.proofs.AnswerLaws.{refused, passed, done}
 use Rattle.rack.proofs.fill.Statement.{statement}
 use Rattle.rack.proofs.fill.Tie as tie
 
-none : (c : tie.Else1) → firstRefusal (fillTable (c .before .before .before .before .args .h) (c .before .before .before .before .args .z) (length (c .before .before .before .before .args .tree .now))) ≡ 0
+none : (c : tie.Else1) → firstGiven (fillTable (c .before .before .before .before .args .h) (c .before .before .before .before .args .z) (length (c .before .before .before .before .args .tree .now))) ≡ 0
 none c = passed _ (c .before .before .of-fill .result) _ (c .before .before .of-fill .ensures) (c .before .is-done .ensures) (c .if1 .left)
 
 of-fill-requires : tie.Need-of-fill-requires

@@ -50,9 +50,9 @@ same-length-4 c = search needs
 
 returns : tie.Need-returns
 returns c =
-        let s = c .before .before .before .before .before .before .before .before .before .before .before .before .before .before .before .before .before .before .before .before .before .before .before .before .before .before .before .before .before .args in
-        let full : length (s .root) ≡ 64 = search (needs, length-mapped, c .before .before .before .before .before .before .before .before .before .before .before .before .before .before .before .before .before .before .before .before .before .before .before .before .before .before .before .before .before .good) in
-        pair-shown (s .sizes) (s .root) (s .words .now) (s .w .now) (s .one .now) (s .two .now) (s .all .now) _ _ _ _ _ _ (c .before .before .before .before .before .before .before .before .before .before .before .before .before .before .before .before .before .before .before .before .before .before .before .before .before .before .before .before .before .pre) full (c .before .before .before .before .before .before .before .before .before .before .before .before .before .before .before .before .before .before .before .before .before .before .load-root .ensures) (c .before .before .before .before .before .before .before .before .before .before .before .before .before .before .before .before .before .before .load-path .ensures) (c .before .before .before .before .before .before .before .before .before .before .before .before .before .before .show-siblings .ensures) (c .before .before .before .before .before .before .before .before .before .before .show-siblings2 .ensures) (c .before .before .before .before .before .before .load-root2 .ensures) (c .before .before .load-slots .ensures)
+    let s = c .before .before .before .before .before .before .before .before .before .before .before .before .before .before .before .before .before .before .before .before .before .before .before .before .before .before .before .before .before .args in
+    let full : length (s .root) ≡ 64 = search (needs, length-mapped, c .before .before .before .before .before .before .before .before .before .before .before .before .before .before .before .before .before .before .before .before .before .before .before .before .before .before .before .before .before .good) in
+    pair-shown (s .sizes) (s .root) (s .words .now) (s .w .now) (s .one .now) (s .two .now) (s .all .now) _ _ _ _ _ _ (c .before .before .before .before .before .before .before .before .before .before .before .before .before .before .before .before .before .before .before .before .before .before .before .before .before .before .before .before .before .pre) full (c .before .before .before .before .before .before .before .before .before .before .before .before .before .before .before .before .before .before .before .before .before .before .load-root .ensures) (c .before .before .before .before .before .before .before .before .before .before .before .before .before .before .before .before .before .before .load-path .ensures) (c .before .before .before .before .before .before .before .before .before .before .before .before .before .before .show-siblings .ensures) (c .before .before .before .before .before .before .before .before .before .before .show-siblings2 .ensures) (c .before .before .before .before .before .before .load-root2 .ensures) (c .before .before .load-slots .ensures)
 
 pub show-pair-spec : {M : Type 1} → statement M
 show-pair-spec =

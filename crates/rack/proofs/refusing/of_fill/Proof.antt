@@ -2,27 +2,27 @@
 use borrow.Author.Needs.{needs}
 use mathlib.Core.Path.{sym, _∙_}
 use borrow.Author.Tests.{not-true, not-false, eq-eqb, ne-eqb}
-use Rattle.rack.specs.Refusals.{firstRefusal}
-use Rattle.rack.proofs.refusal.of_fill.Statement.{statement}
-use Rattle.rack.proofs.refusal.of_fill.Tie as tie
+use Rattle.refusal.specs.Refusal.{firstGiven}
+use Rattle.rack.proofs.refusing.of_fill.Statement.{statement}
+use Rattle.rack.proofs.refusing.of_fill.Tie as tie
 
 tree-in-range-requires : tie.Need-tree-in-range-requires
 tree-in-range-requires c κs = search needs
 
 returns : tie.Need-returns
-unfolding firstRefusal
+unfolding firstGiven
 returns c = rw (sym (c .before .tree-in-range .ensures) ∙ not-true _ (c .if1 .taken))
 
 tree-words-requires : tie.Need-tree-words-requires
 tree-words-requires c κs = sym (c .before .tree-in-range .ensures) ∙ not-false _ (c .if1 .left)
 
 returns-2 : tie.Need-returns-2
-unfolding firstRefusal
+unfolding firstGiven
 returns-2 c =
     rw (sym (c .before .before .before .tree-in-range .ensures) ∙ not-false _ (c .before .before .if1 .left), ne-eqb _ _ (rw (c .before .tree-words .ensures) at (c .if2 .taken)))
 
 returns-3 : tie.Need-returns-3
-unfolding firstRefusal
+unfolding firstGiven
 returns-3 c =
     rw (sym (c .before .before .before .tree-in-range .ensures) ∙ not-false _ (c .before .before .if1 .left), eq-eqb _ _ (c .if2 .left ∙ c .before .tree-words .ensures))
 

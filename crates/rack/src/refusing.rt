@@ -1,7 +1,7 @@
 // The rack's refusals: document 01, "On the rack: 1, 11, 14". One function decides for each call, in that order.
 ghost use mathlib.Core.Path.{_≡_};
 ghost use Prim.Native.Nat.{_≤_, _<_};
-ghost use Rattle.rack.specs.Refusals.{firstRefusal};
+ghost use Rattle.refusal.specs.Refusal.{firstGiven};
 ghost use Rattle.rack.specs.Answers.{answerNumber, fillTable, copyTable, fewWords, anyOutside};
 use crate::Answer;
 use crate::layout;
@@ -42,7 +42,7 @@ fn any_outside(h: u64, list: &[u64]) -> bool
 }
 
 pub(crate) fn of_fill(h: u64, z: u64, tree: usize) -> Answer
-    ensures { λ r. ⌜ answerNumber r ≡ firstRefusal (fillTable h z tree) ⌝ }
+    ensures { λ r. ⌜ answerNumber r ≡ firstGiven (fillTable h z tree) ⌝ }
 {
     if !tree_in_range(h, z) {
         return Answer::BadSize;
@@ -63,7 +63,7 @@ pub(crate) fn of_copy(
     least: usize,
     words: usize,
 ) -> Answer
-    ensures { λ r. ⌜ answerNumber r ≡ firstRefusal (copyTable h z tree (now (list .entry)) whole least words) ⌝ }
+    ensures { λ r. ⌜ answerNumber r ≡ firstGiven (copyTable h z tree (now (list .entry)) whole least words) ⌝ }
 {
     if !tree_in_range(h, z) {
         return Answer::BadSize;

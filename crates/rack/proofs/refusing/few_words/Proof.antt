@@ -2,8 +2,8 @@
 use borrow.Author.Needs.{needs}
 use native.Mathlib.Omega.{arith}
 use Rattle.rack.proofs.RefusalLaws.{few-for-whole, whole-fit, few-for-least}
-use Rattle.rack.proofs.refusal.few_words.Statement.{statement}
-use Rattle.rack.proofs.refusal.few_words.Tie as tie
+use Rattle.rack.proofs.refusing.few_words.Statement.{statement}
+use Rattle.rack.proofs.refusing.few_words.Tie as tie
 
 bucket-words-requires : tie.Need-bucket-words-requires
 bucket-words-requires c κs = search needs

@@ -8,10 +8,10 @@ use lib.Seq.{length-take-le}
 use borrow.Author.Tests.{not-true, not-false, ne-eqb, ltb-false}
 use Rattle.path.specs.Sizes.{treeIn}
 use Rattle.path.proofs.SizesLaws.{tree-in}
-use Rattle.rack.specs.Refusals.{firstRefusal}
+use Rattle.refusal.specs.Refusal.{firstGiven}
 use Rattle.rack.proofs.RefusalLaws.{TreePasses, refuses-counts, refuses-words, refuses-buckets, passes-copy}
-use Rattle.rack.proofs.refusal.of_copy.Statement.{statement}
-use Rattle.rack.proofs.refusal.of_copy.Tie as tie
+use Rattle.rack.proofs.refusing.of_copy.Statement.{statement}
+use Rattle.rack.proofs.refusing.of_copy.Tie as tie
 
 in-range : (c : tie.Else1) → treeIn (c .before .before .before .args .h) (c .before .before .before .args .z) ≡ true
 in-range c = sym (c .before .tree-in-range .ensures) ∙ not-false _ (c .if1 .left)
@@ -23,14 +23,14 @@ tree-in-range-requires : tie.Need-tree-in-range-requires
 tree-in-range-requires c κs = search needs
 
 returns : tie.Need-returns
-unfolding firstRefusal
+unfolding firstGiven
 returns c = rw (sym (c .before .tree-in-range .ensures) ∙ not-true _ (c .if1 .taken))
 
 tree-words-requires : tie.Need-tree-words-requires
 tree-words-requires c κs = in-range c
 
 returns-2 : tie.Need-returns-2
-unfolding firstRefusal
+unfolding firstGiven
 returns-2 c =
     rw (in-range (c .before .before), ne-eqb _ _ (rw (c .before .tree-words .ensures) at (c .if2 .taken)))
 

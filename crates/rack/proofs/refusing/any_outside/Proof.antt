@@ -7,8 +7,8 @@ use lib.ListN.{length, drop}
 use Rattle.rack.specs.Answers.{anyOutside}
 use Rattle.rack.proofs.LayoutLaws.{leaves-few}
 use Rattle.rack.proofs.RefusalLaws.{low-outside, high-outside, not-outside, outside-next, none-outside}
-use Rattle.rack.proofs.refusal.any_outside.Statement.{statement}
-use Rattle.rack.proofs.refusal.any_outside.Tie as tie
+use Rattle.rack.proofs.refusing.any_outside.Statement.{statement}
+use Rattle.rack.proofs.refusing.any_outside.Tie as tie
 
 abbrev Inv-loop : tie.InvT-loop
 Inv-loop h list end i₀ i = (i ≤ length list) × (anyOutside h list ≡ anyOutside h (drop i list))
