@@ -1,0 +1,126 @@
+// Cards to call: started ones, and forged ones, which differ from a good card in the numbers that are given.
+ghost use Prim.Native.Nat.{_<_, _≤_};
+use card::Card;
+use card::Waiting;
+use path::Sizes;
+use record::Leaf;
+use record::Record;
+use record::Stamp;
+
+// 2^64 - 1, the greatest number that a field can hold.
+pub(crate) const TOP: u64 = 18446744073709551615;
+
+pub(crate) fn started(h: u64, z: u64, r: u64, t: u64) -> Card {
+    let done = Card::start(h, z, r, t);
+    done.card
+}
+
+// N = 4, two root slots, T = 16; nothing finished.
+pub(crate) fn fresh() -> Card {
+    started(2, 1, 2, 16)
+}
+
+// The same sizes with five requests finished and two events live, one in the root's slot 0 and one somewhere below. Slot 1
+// is free.
+pub(crate) fn held() -> Card {
+    let card = slot(fresh(), 0, 5, 50, 0, 1);
+    least(counts(card, 5, 2), 5, 50, 0, 1)
+}
+
+// Both events below the root.
+pub(crate) fn bare() -> Card {
+    let card = held();
+    let mut root = card.root;
+    root[0] = Record::DUMMY;
+    Card { root: root, ..card }
+}
+
+// Both root slots real.
+pub(crate) fn crowded() -> Card {
+    slot(held(), 1, 6, 60, 1, 2)
+}
+
+// Sixty-four live events, the first n of them in a root of 64 slots; N = 128.
+pub(crate) fn large(n: usize) -> Card
+    requires { ⌜ n ≤ 64 ⌝ }
+{
+    let card = started(7, 1, 64, 128);
+    let mut root = card.root;
+    for i in 0..n {
+        let k = i as u64;
+        root[i] = Record::proper(k, 0, Leaf(k), Stamp(k));
+    }
+    let filled = Card { root: root, ..card };
+    least(counts(filled, 64, 64), 0, 0, 0, 0)
+}
+
+pub(crate) fn sized(card: Card, h: u64, z: u64, r: u64, t: u64) -> Card {
+    let sizes = Sizes {
+        h: h,
+        z: z,
+        r: r,
+        t: t,
+    };
+    Card {
+        sizes: sizes,
+        ..card
+    }
+}
+
+pub(crate) fn counts(card: Card, t: u64, c: u64) -> Card {
+    Card { t: t, c: c, ..card }
+}
+
+pub(crate) fn slot(card: Card, i: usize, key: u64, value: u64, label: u64, stamp: u64) -> Card
+    requires { ⌜ i < 64 ⌝ }
+{
+    let mut root = card.root;
+    root[i] = Record::proper(key, value, Leaf(label), Stamp(stamp));
+    Card { root: root, ..card }
+}
+
+pub(crate) fn least(card: Card, key: u64, value: u64, label: u64, stamp: u64) -> Card {
+    let record = Record::proper(key, value, Leaf(label), Stamp(stamp));
+    Card {
+        least: record,
+        ..card
+    }
+}
+
+pub(crate) fn inserting(card: Card, key: u64, label: u64, first: u64, second: u64) -> Card {
+    let label = Leaf(label);
+    let first = Leaf(first);
+    let second = Leaf(second);
+    let request = Waiting::Insert {
+        key: key,
+        value: 60,
+        label: label,
+        first: first,
+        second: second,
+    };
+    Card {
+        waiting: request,
+        ..card
+    }
+}
+
+pub(crate) fn extracting(card: Card) -> Card {
+    let request = Waiting::Extract;
+    Card {
+        waiting: request,
+        ..card
+    }
+}
+
+pub(crate) fn deleting(card: Card, label: u64, stamp: u64) -> Card {
+    let label = Leaf(label);
+    let stamp = Stamp(stamp);
+    let request = Waiting::Delete {
+        label: label,
+        stamp: stamp,
+    };
+    Card {
+        waiting: request,
+        ..card
+    }
+}

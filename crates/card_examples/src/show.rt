@@ -1,0 +1,107 @@
+// Answers, lists and cards as numbers of a line.
+use crate::line;
+use card::Answer;
+use card::Card;
+use card::Done;
+use card::Waiting;
+use record::Record;
+
+fn record(r: Record) {
+    line::number(r.key);
+    line::number(r.value);
+    line::number(r.label.0);
+    line::number(r.stamp.0);
+}
+
+// What a call answered: the paper's number, then its values; the last of FindMin's is the words moved.
+pub(crate) fn answer(done: Done) {
+    let given = done.answer;
+    match given {
+        Answer::Started => line::number(0),
+        Answer::Listed { whole, least } => {
+            line::number(0);
+            line::number(whole as u64);
+            line::number(least as u64);
+        }
+        Answer::Least(least) => {
+            line::number(0);
+            record(least);
+            line::number(0);
+        }
+        Answer::Withdrawn => line::number(0),
+        Answer::Refused(number) => line::number(number),
+    }
+}
+
+// The number alone.
+pub(crate) fn verdict(done: Done) {
+    let given = done.answer;
+    match given {
+        Answer::Refused(number) => line::number(number),
+        Answer::Started => line::number(0),
+        Answer::Listed { whole: _, least: _ } => line::number(0),
+        Answer::Least(_) => line::number(0),
+        Answer::Withdrawn => line::number(0),
+    }
+}
+
+// Every place, so that places past the last number show.
+pub(crate) fn list(places: &[u64]) {
+    line::name(b" list");
+    let mut i = 0;
+    while i < places.len() {
+        line::number(places[i]);
+        i += 1;
+    }
+}
+
+// What waits: none, or the kind's name and its numbers.
+fn waiting(request: Waiting) {
+    match request {
+        Waiting::Nothing => line::name(b", none waits"),
+        Waiting::Insert {
+            key,
+            value,
+            label,
+            first,
+            second,
+        } => {
+            line::name(b", Insert waits");
+            line::number(key);
+            line::number(value);
+            line::number(label.0);
+            line::number(first.0);
+            line::number(second.0);
+        }
+        Waiting::Extract => line::name(b", ExtractMin waits"),
+        Waiting::Delete { label, stamp } => {
+            line::name(b", Delete waits");
+            line::number(label.0);
+            line::number(stamp.0);
+        }
+    }
+}
+
+// A card: of the root's places the first and the last.
+pub(crate) fn card(held: Card) {
+    line::name(b" sizes");
+    line::number(held.sizes.h);
+    line::number(held.sizes.z);
+    line::number(held.sizes.r);
+    line::number(held.sizes.t);
+    line::name(b", t");
+    line::number(held.t);
+    line::name(b", c");
+    line::number(held.c);
+    line::name(b", first");
+    let first = held.root[0];
+    record(first);
+    line::name(b", last");
+    let last = held.root[63];
+    record(last);
+    line::name(b", least");
+    let least = held.least;
+    record(least);
+    let request = held.waiting;
+    waiting(request);
+}
