@@ -1,0 +1,188 @@
+use borrow.Author.Needs.{needs}
+use native.Mathlib.Omega.{arith}
+use mathlib.Core.Path.{sym}
+use lib.Seq.{length-take-le}
+use Rattle.rack_examples.proofs.copies.fetched.Statement.{statement}
+use Rattle.rack_examples.proofs.copies.fetched.Tie as tie
+
+slice-aggregate-fill : tie.Need-slice-aggregate-fill
+slice-aggregate-fill c = search needs
+
+fill-requires : tie.Need-fill-requires
+fill-requires c κs = search needs
+
+slice-aggregate-fetch : tie.Need-slice-aggregate-fetch
+slice-aggregate-fetch c = search needs
+
+slice-aggregate-fetch-2 : tie.Need-slice-aggregate-fetch-2
+slice-aggregate-fetch-2 c = search needs
+
+slice-aggregate-fetch-3 : tie.Need-slice-aggregate-fetch-3
+slice-aggregate-fetch-3 c = search needs
+
+fetch-requires : tie.Need-fetch-requires
+fetch-requires c κs = search needs
+
+slice-aggregate-answer : tie.Need-slice-aggregate-answer
+slice-aggregate-answer c = search needs
+
+number-requires : tie.Need-number-requires
+number-requires c κs = search needs
+
+answer-requires : tie.Need-answer-requires
+answer-requires c κs = search needs
+
+slice-aggregate-words : tie.Need-slice-aggregate-words
+slice-aggregate-words c = search needs
+
+array-share-prefix-words : tie.Need-array-share-prefix-words
+array-share-prefix-words c = search needs
+
+slice-aggregate-words-2 : tie.Need-slice-aggregate-words-2
+slice-aggregate-words-2 c =
+    sym (length-take-le 8 (c .before .before .before .before .before .before .fetch .last .1 .1 .1 .1 .1 .1 .0) (omega (arith, c .before .before .before .before .before .before .fetch .kept .1 .1 .1 .1 .1 .1 .0)))
+
+words-requires : tie.Need-words-requires
+words-requires c κs = search needs
+
+slice-aggregate-words-3 : tie.Need-slice-aggregate-words-3
+slice-aggregate-words-3 c = search needs
+
+sub-words : tie.Need-sub-words
+sub-words c = search needs
+
+part-words-start : tie.Need-part-words-start
+part-words-start c = search needs
+
+part-words-end : tie.Need-part-words-end
+part-words-end c = search needs
+
+words-requires-2 : tie.Need-words-requires-2
+words-requires-2 c κs = search needs
+
+slice-aggregate-words-4 : tie.Need-slice-aggregate-words-4
+slice-aggregate-words-4 c = search needs
+
+sub-words-2 : tie.Need-sub-words-2
+sub-words-2 c = search needs
+
+part-words-start-2 : tie.Need-part-words-start-2
+part-words-start-2 c = search needs
+
+part-words-end-2 : tie.Need-part-words-end-2
+part-words-end-2 c = search needs
+
+words-requires-3 : tie.Need-words-requires-3
+words-requires-3 c κs = search needs
+
+slice-aggregate-words-5 : tie.Need-slice-aggregate-words-5
+slice-aggregate-words-5 c = search needs
+
+sub-words-3 : tie.Need-sub-words-3
+sub-words-3 c = search needs
+
+part-words-start-3 : tie.Need-part-words-start-3
+part-words-start-3 c = search needs
+
+part-words-end-3 : tie.Need-part-words-end-3
+part-words-end-3 c = search needs
+
+words-requires-4 : tie.Need-words-requires-4
+words-requires-4 c κs = search needs
+
+slice-aggregate-words-6 : tie.Need-slice-aggregate-words-6
+slice-aggregate-words-6 c = search needs
+
+sub-words-4 : tie.Need-sub-words-4
+sub-words-4 c = search needs
+
+part-words-start-4 : tie.Need-part-words-start-4
+part-words-start-4 c = search needs
+
+part-words-end-4 : tie.Need-part-words-end-4
+part-words-end-4 c = search needs
+
+words-requires-5 : tie.Need-words-requires-5
+words-requires-5 c κs = search needs
+
+slice-aggregate-words-7 : tie.Need-slice-aggregate-words-7
+slice-aggregate-words-7 c = search needs
+
+sub-words-5 : tie.Need-sub-words-5
+sub-words-5 c = search needs
+
+part-words-start-5 : tie.Need-part-words-start-5
+part-words-start-5 c = search needs
+
+part-words-end-5 : tie.Need-part-words-end-5
+part-words-end-5 c = search needs
+
+words-requires-6 : tie.Need-words-requires-6
+words-requires-6 c κs = search needs
+
+slice-aggregate-words-8 : tie.Need-slice-aggregate-words-8
+slice-aggregate-words-8 c = search needs
+
+sub-words-6 : tie.Need-sub-words-6
+sub-words-6 c = search needs
+
+part-words-start-6 : tie.Need-part-words-start-6
+part-words-start-6 c = search needs
+
+part-words-end-6 : tie.Need-part-words-end-6
+part-words-end-6 c = search needs
+
+words-requires-7 : tie.Need-words-requires-7
+words-requires-7 c κs = search needs
+
+returns : tie.Need-returns
+returns c = search needs
+
+pub fetched-spec : {M : Type 1} → statement M
+fetched-spec =
+    tie.close
+    (tie.spec
+    slice-aggregate-fill
+    fill-requires
+    slice-aggregate-fetch
+    slice-aggregate-fetch-2
+    slice-aggregate-fetch-3
+    fetch-requires
+    slice-aggregate-answer
+    number-requires
+    answer-requires
+    slice-aggregate-words
+    array-share-prefix-words
+    slice-aggregate-words-2
+    words-requires
+    slice-aggregate-words-3
+    sub-words
+    part-words-start
+    part-words-end
+    words-requires-2
+    slice-aggregate-words-4
+    sub-words-2
+    part-words-start-2
+    part-words-end-2
+    words-requires-3
+    slice-aggregate-words-5
+    sub-words-3
+    part-words-start-3
+    part-words-end-3
+    words-requires-4
+    slice-aggregate-words-6
+    sub-words-4
+    part-words-start-4
+    part-words-end-4
+    words-requires-5
+    slice-aggregate-words-7
+    sub-words-5
+    part-words-start-5
+    part-words-end-5
+    words-requires-6
+    slice-aggregate-words-8
+    sub-words-6
+    part-words-start-6
+    part-words-end-6
+    words-requires-7
+    returns)
