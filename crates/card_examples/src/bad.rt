@@ -1,5 +1,5 @@
-// BadCard, clause by clause. Each card differs from a good one in what its name says, and in nothing that another clause
-// would refuse.
+// BadCard, clause by clause. Each card differs from a good one in what its name says, and but for numbers of 2^64 - 1 in
+// nothing that another clause would refuse.
 use crate::cards::TOP;
 use crate::forged::counts;
 use crate::forged::least;
@@ -45,7 +45,7 @@ fn bad_slots() {
         DUMMY_KEY,
         0,
         0,
-        1,
+        2,
     );
     slot(b"two root records with one stamp:", 1, 6, 60, 1, 1);
     counts(b"two root records, c = 1:", Named::Crowded, 5, 1);

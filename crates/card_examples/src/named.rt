@@ -1,5 +1,4 @@
-// The cards that stand in several lines of the table, by name: a line of names and numbers is proved in a fraction of the
-// time that one with a card in it takes.
+// The cards that stand in several lines of the table, by name, so that a line says which card it is about.
 use crate::cards;
 use card::Card;
 
