@@ -10,11 +10,12 @@ use lib.ListN.{length, getD, set, take, drop, length-drop, length-set}
 use lib.Seq.{length-take-le, take-suc, drop-cons, set-at, append-snoc, getD-drop, paste, paste-zero, paste-suc}
 use Rattle.record.specs.declared.Record.{Record}
 use Rattle.record.specs.Words.{records, written}
+use Rattle.path.specs.Layout.{recordWords}
 use Rattle.way.proofs.WayLaws.{part-length}
-use Rattle.gather.specs.Laid.{laidOver}
-use Rattle.gather.specs.Shown.{slotsShown}
+use Rattle.gather.specs.Laid.{laidOver, SiblingsLoaded}
+use Rattle.gather.specs.Shown.{slotsShown, siblingsShown}
 use Rattle.gather.proofs.LaidLaws.{laid-none, laid-length, laid-more, written-laid, paste-laid}
-use Rattle.gather.proofs.ShownLaws.{slots-none, slots-more, slots-length}
+use Rattle.gather.proofs.ShownLaws.{slots-none, slots-more, slots-length, siblings-none, siblings-more, siblings-length}
 
 -- A loop over words has copied k of `count`.
 pub record Copying (old src : List ℕ) (to first count : ℕ) (now : List ℕ) (k : ℕ) : Type 0 where
@@ -105,6 +106,42 @@ module _ (z : ℕ) (ws : List ℕ) (at from : ℕ) (old : List ℕ) where
   pub slots-end : (now : List ℕ) (to first d count : ℕ) → Slots z ws at from old now to first d → d ≡ count
       → now ≡ laidOver old at (slotsShown z ws from count)
   slots-end now to first d count s e = rw (← e) (s .laid .done)
+
+-- A loop over siblings, whose next goes to `place`, has laid the least records of those before it.
+pub record Siblings (z : ℕ) (ws : List ℕ) (n i at : ℕ) (old now : List ℕ) (from place moved : ℕ) : Type 0 where
+  pub begun : at ≤ place
+  pub sibling : from ≡ n * (z + 1) + i + (place - at)
+  pub counted : moved ≡ (place - at) * recordWords
+  pub laid : Laying old at (siblingsShown z ws n i (place - at)) now
+
+module _ (z : ℕ) (ws : List ℕ) (n i at : ℕ) (old : List ℕ) where
+  pub siblings-start : Siblings z ws n i at old old (n * (z + 1) + i) at 0
+  siblings-start =
+      let e : at - at ≡ 0 = omega arith in
+      record { begun = omega arith; sibling = omega arith; counted = omega arith; laid = rw (e, siblings-none) (laying-starts old at) }
+
+  pub siblings-turn : (now next : List ℕ) (from place moved : ℕ) → Siblings z ws n i at old now from place moved
+      → 4 * (place + 1) ≤ length old → 4 * (from + 1) ≤ length ws
+      → next ≡ laidOver now place (take 1 (drop from (records ws)))
+      → Siblings z ws n i at old next (from + 1) (place + 1) (moved + 4)
+  siblings-turn now next from place moved s fits given e =
+      let l = siblings-length z ws n i (place - at) in
+      let m = part-length ws from 1 (omega arith) in
+      let b = s .begun in
+      let f : place + 1 - at ≡ place - at + 1 = omega arith in
+      let more = laying-turns old at _ _ now next place (s .laid) (omega arith) (omega arith) e in
+      record {
+        begun = omega arith;
+        sibling = omega (arith, s .sibling);
+        counted = omega (arith, s .counted);
+        laid = rw (f, siblings-more z ws n i (place - at) (omega (arith, s .sibling)), ← s .sibling) more;
+      }
+
+  pub siblings-end : (now : List ℕ) (from place moved level h : ℕ) → Siblings z ws n i at old now from place moved → place ≡ h
+      → at ≡ level - 1 → 1 ≤ level → SiblingsLoaded z ws n i level (h + 1 - level) old now moved
+  siblings-end now from place moved level h s e f g =
+      let k : place - at ≡ h + 1 - level = omega arith in
+      record { laid = rw (← k, ← f) (s .laid .done); counted = rw (← k) (s .counted) }
 
 -- A loop over the card's slots has put back the first i of a way.
 pub record Saving (way root : List Record) (now : List Record) (i : ℕ) : Type 0 where

@@ -79,6 +79,16 @@ module _ (z : ℕ) (ws : List ℕ) where
       rw (drop-cons (records ws) (n * (z + 1) + i) dummy (omega arith), e)
       (ap (λ (rs : List Record). siblingAt z ws n i ∷ rs) (siblings-part n (suc i) k (omega arith)))
 
+  pub siblings-none : (n i : ℕ) → siblingsShown z ws n i 0 ≡ []
+  unfolding siblingsShown upFrom
+  siblings-none n i = refl
+
+  -- one sibling more
+  pub siblings-more : (n i k : ℕ) → 4 * (n * (z + 1) + i + k + 1) ≤ length ws
+      → siblingsShown z ws n i (k + 1) ≡ siblingsShown z ws n i k ++ take 1 (drop (n * (z + 1) + i + k) (records ws))
+  siblings-more n i k h =
+      rw (← siblings-part n i (k + 1) (omega arith), ← siblings-part n i k (omega arith), take-add k 1, drop-drop)
+
   pub siblings-length : (n i k : ℕ) → length (siblingsShown z ws n i k) ≡ k
   unfolding siblingsShown
   siblings-length n i k = length-map (upFrom i k) (siblingAt z ws n) ∙ length-upFrom i k

@@ -9,8 +9,8 @@ ghost use Prim.Native.Nat.{_+_, _*_, _-_, _≤_};
 ghost use lib.ListN.{length, take, drop};
 ghost use Rattle.record.specs.Words.{records};
 ghost use Rattle.way.specs.Evict.{seek};
-ghost use Rattle.gather.specs.Laid.{laidOver};
-ghost use Rattle.gather.specs.Shown.{slotsShown, siblingsShown};
+ghost use Rattle.gather.specs.Laid.{laidOver, SiblingsLoaded};
+ghost use Rattle.gather.specs.Shown.{slotsShown};
 ghost use Rattle.gather.specs.Removal.{named, Cleared};
 use path::Sizes;
 use record::Leaf;
@@ -84,7 +84,7 @@ pub fn load_path(w: &mut [u64], words: &[u64], from: usize, sizes: Sizes)
 
 // For crates above: the least records of a path's siblings at levels `level` to h, which stand behind `whole` whole
 // buckets and `skip` siblings. Level d's goes to place d - 1, whatever the first level is: one path fetches its
-// siblings from level 1 on, each of Insert's two from level 2 on.
+// siblings from level 1 on, each of Insert's two from level 2 on. The words moved are counted with each: it was fetched.
 pub fn load_siblings(
     sibs: &mut [u64],
     words: &[u64],
@@ -92,15 +92,23 @@ pub fn load_siblings(
     skip: usize,
     level: usize,
     sizes: Sizes,
-)
+) -> u64
     requires { ⌜ (sizes .z ≤ 5) × ((1 ≤ level) × ((level ≤ sizes .h + 1) × (4 * sizes .h ≤ length (now sibs)))) ⌝ }
     requires { ⌜ 4 * (whole * (sizes .z + 1) + skip + (sizes .h + 1 - level)) ≤ length (now words) ⌝ }
-    ensures { λ _. ⌜ now (sibs .exit) ≡ laidOver (now (sibs .entry)) (level - 1) (siblingsShown (sizes .z) (now (words .entry)) whole skip (sizes .h + 1 - level)) ⌝ }
+    ensures { λ n. ⌜ SiblingsLoaded (sizes .z) (now (words .entry)) whole skip level (sizes .h + 1 - level) (now (sibs .entry)) (now (sibs .exit)) n ⌝ }
 {
     let h = sizes.h as usize;
     let z = sizes.z as usize;
-    let from = whole * (z + 1) + skip;
-    copy(sibs, level - 1, words, from, h + 1 - level);
+    let mut from = whole * (z + 1) + skip;
+    let mut place = level - 1;
+    let mut moved = 0;
+    while place < h {
+        copy(sibs, place, words, from, 1);
+        moved += RECORD_WORDS as u64;
+        from += 1;
+        place += 1;
+    }
+    moved
 }
 
 // "the record that has this label and stamp". Stamps differ most, so they are looked at first; the dummy has label and

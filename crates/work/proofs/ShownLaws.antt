@@ -10,12 +10,12 @@ use Rattle.record.specs.Standing.{dummy}
 use Rattle.record.specs.Words.{records, written}
 use Rattle.record.proofs.WordsLaws.{length-written, records-written, records-count}
 use Rattle.path.specs.declared.sizes.Sizes.{Sizes}
-use Rattle.gather.specs.Laid.{laidOver}
+use Rattle.gather.specs.Laid.{laidOver, SiblingsLoaded}
 use Rattle.gather.specs.Shown.{siblingsShown, slotsShown, wayShown}
 use Rattle.gather.proofs.LaidLaws.{laid-last}
 use Rattle.gather.proofs.ShownLaws.{siblings-length}
 use Rattle.gather.proofs.LoadedLaws.{way-loaded}
-use Rattle.work.specs.Work.{PathShown, PathRoom, SiblingRoom, belowFirst, PairShown, PairShownRoom}
+use Rattle.work.specs.Work.{PathShown, PathRoom, SiblingRoom, SiblingsBelow, PairShown, PairShownRoom}
 
 -- the length of an array of structs, from what owning it tells
 pub length-mapped : (X Y : Type 0) (f : X → Y) (l : List X) (n : ℕ) → length (map f l) ≡ n → length l ≡ n
@@ -24,8 +24,8 @@ length-mapped X Y f l n p = sym (length-map l f) ∙ p
 pub path-shown :
     (s : Sizes) (root : List Record) (ws w₀ b₀ w₁ w₂ b₁ : List ℕ) → PathRoom s ws w₀ b₀ → length root ≡ 64
     → w₁ ≡ laidOver w₀ 0 (take (s .r) root) → w₂ ≡ laidOver w₁ (s .r) (slotsShown (s .z) ws 0 (s .h))
-    → b₁ ≡ laidOver b₀ 0 (siblingsShown (s .z) ws (s .h) 0 (s .h + 1 - 1)) → PathShown s root ws w₂ b₁
-path-shown s root ws w₀ b₀ w₁ w₂ b₁ room full one two three =
+    → (moved : ℕ) → SiblingsLoaded (s .z) ws (s .h) 0 1 (s .h + 1 - 1) b₀ b₁ moved → PathShown s root ws w₂ b₁ moved
+path-shown s root ws w₀ b₀ w₁ w₂ b₁ room full one two moved three =
     let n : s .h + 1 - 1 ≡ s .h = omega arith in
     let k = siblings-length (s .z) ws (s .h) 0 (s .h) in
     record {
@@ -33,15 +33,16 @@ path-shown s root ws w₀ b₀ w₁ w₂ b₁ room full one two three =
           ap records two
           ∙ way-loaded (s .h) (s .z) (s .r) root ws 0 (omega (arith, room .roots)) (omega (arith, room .fetched)) w₀ (room .slots) w₁ one;
       siblings =
-          ap records (rw n at three)
+          ap records (rw n at (three .laid))
           ∙ laid-last b₀ 0 (siblingsShown (s .z) ws (s .h) 0 (s .h)) (omega (arith, room .siblings)) (omega (arith, room .siblings));
+      counted = rw n at (three .counted);
     }
 
 -- the dummy at level 1's place, then the siblings from level 2 on
 pub siblings-shown :
     (s : Sizes) (skip : ℕ) (ws b₀ b₁ b₂ : List ℕ) → SiblingRoom s skip ws b₀ → b₁ ≡ written b₀ 0 dummy
-    → b₂ ≡ laidOver b₁ 1 (siblingsShown (s .z) ws (2 * s .h) skip (s .h + 1 - 2)) → records b₂ ≡ belowFirst s ws skip
-siblings-shown s skip ws b₀ b₁ b₂ room one two =
+    → (moved : ℕ) → SiblingsLoaded (s .z) ws (2 * s .h) skip 2 (s .h + 1 - 2) b₁ b₂ moved → SiblingsBelow s ws skip b₂ moved
+siblings-shown s skip ws b₀ b₁ b₂ room one moved two =
     let n : s .h + 1 - 2 ≡ s .h - 1 = omega arith in
     let k = siblings-length (s .z) ws (2 * s .h) skip (s .h - 1) in
     let l : length b₁ ≡ length b₀ = ap length one ∙ length-written b₀ 0 dummy in
@@ -51,9 +52,13 @@ siblings-shown s skip ws b₀ b₁ b₂ room one two =
     ap (λ (b : List ℕ). take 1 (records b)) one
     ∙ ap (take 1) (records-written b₀ 0 dummy (omega (arith, room .siblings, room .some)))
     ∙ take-suc-set (records b₀) 0 dummy (omega (arith, records-count b₀, room .siblings, room .some)) in
-    ap records (rw n at two)
-    ∙ laid-last b₁ 1 (siblingsShown (s .z) ws (2 * s .h) skip (s .h - 1)) (omega arith) long
-    ∙ ap (λ (f : List Record). f ++ siblingsShown (s .z) ws (2 * s .h) skip (s .h - 1)) first
+    record {
+      siblings =
+          ap records (rw n at (two .laid))
+          ∙ laid-last b₁ 1 (siblingsShown (s .z) ws (2 * s .h) skip (s .h - 1)) (omega arith) long
+          ∙ ap (λ (f : List Record). f ++ siblingsShown (s .z) ws (2 * s .h) skip (s .h - 1)) first;
+      counted = rw n at (two .counted);
+    }
 
 -- a way in a scratch just as long: the root's slots, then those of n whole buckets
 way-shown :
@@ -67,13 +72,14 @@ pub pair-shown :
     (s : Sizes) (root : List Record) (ws w₀ one₀ two₀ all₀ w₁ w₂ one two all₁ all₂ : List ℕ)
     → PairShownRoom s ws w₀ one₀ two₀ all₀ → length root ≡ 64
     → w₁ ≡ laidOver w₀ 0 (take (s .r) root) → w₂ ≡ laidOver w₁ (s .r) (slotsShown (s .z) ws 0 (s .h))
-    → records one ≡ belowFirst s ws 0 → records two ≡ belowFirst s ws (s .h - 1)
+    → (m n : ℕ) → SiblingsBelow s ws 0 one m → SiblingsBelow s ws (s .h - 1) two n
     → all₁ ≡ laidOver all₀ 0 (take (s .r) root) → all₂ ≡ laidOver all₁ (s .r) (slotsShown (s .z) ws 0 (2 * s .h))
-    → PairShown s root ws w₂ one two all₂
-pair-shown s root ws w₀ one₀ two₀ all₀ w₁ w₂ one two all₁ all₂ room full e₁ e₂ e₃ e₄ e₅ e₆ =
+    → PairShown s root ws w₂ one two all₂ (m + n)
+pair-shown s root ws w₀ one₀ two₀ all₀ w₁ w₂ one two all₁ all₂ room full e₁ e₂ m n e₃ e₄ e₅ e₆ =
     record {
       way = way-shown (s .h) (s .z) (s .r) root ws w₀ w₁ w₂ (omega (arith, room .roots)) (omega (arith, room .fetched)) (room .ways) e₁ e₂;
-      first = e₃;
-      second = e₄;
+      first = e₃ .siblings;
+      second = e₄ .siblings;
       slots = way-shown (2 * s .h) (s .z) (s .r) root ws all₀ all₁ all₂ (omega (arith, room .roots)) (omega (arith, room .fetched)) (room .alls) e₅ e₆;
+      counted = omega (arith, e₃ .counted, e₄ .counted);
     }

@@ -12,7 +12,7 @@ use Rattle.record.specs.Standing.{dummy, isDummy}
 use Rattle.record.specs.Order.{leastOf}
 use Rattle.record.specs.Words.{records}
 use Rattle.path.specs.declared.sizes.Sizes.{Sizes}
-use Rattle.path.specs.Layout.{Contents}
+use Rattle.path.specs.Layout.{Contents, recordWords}
 use Rattle.way.specs.Evict.{seek, evict}
 use Rattle.way.specs.Least.{slotsAt, rootSlots, kids, mendedAt, mended}
 use Rattle.gather.specs.Removal.{found, removed}
@@ -102,10 +102,12 @@ pub record PairRoom (s : Sizes) (first second : Leaf) (path₁ path₂ w beside 
   pub two : MendRoom s second path₂ w beside
   pub fetched : 4 * (2 * s .h * (s .z + 1) + 2 * (s .h - 1)) ≤ length words
 
--- ---- ExtractMin and Delete: the way and the siblings' least records that card and fetched words show
-pub record PathShown (s : Sizes) (root : List Record) (ws w sibs : List ℕ) : Type 0 where
+-- ---- ExtractMin and Delete: the way and the siblings' least records that card and fetched words show, and the words moved
+-- for these siblings
+pub record PathShown (s : Sizes) (root : List Record) (ws w sibs : List ℕ) (moved : ℕ) : Type 0 where
   pub way : records w ≡ wayShown (s .h) (s .z) (s .r) root ws 0
   pub siblings : records sibs ≡ siblingsShown (s .z) ws (s .h) 0 (s .h)
+  pub counted : moved ≡ s .h * recordWords
 
 -- room for them: scratches just as long, and the fetched words
 pub record PathRoom (s : Sizes) (ws w sibs : List ℕ) : Type 0 where
@@ -150,11 +152,16 @@ pub record SiblingRoom (s : Sizes) (skip : ℕ) (ws sibs : List ℕ) : Type 0 wh
   pub siblings : length sibs ≡ 4 * s .h
   pub fetched : 4 * (2 * s .h * (s .z + 1) + skip + (s .h - 1)) ≤ length ws
 
-pub record PairShown (s : Sizes) (root : List Record) (ws w one two all : List ℕ) : Type 0 where
+pub record SiblingsBelow (s : Sizes) (ws : List ℕ) (skip : ℕ) (sibs : List ℕ) (moved : ℕ) : Type 0 where
+  pub siblings : records sibs ≡ belowFirst s ws skip
+  pub counted : moved ≡ (s .h - 1) * recordWords
+
+pub record PairShown (s : Sizes) (root : List Record) (ws w one two all : List ℕ) (moved : ℕ) : Type 0 where
   pub way : records w ≡ wayShown (s .h) (s .z) (s .r) root ws 0
   pub first : records one ≡ belowFirst s ws 0
   pub second : records two ≡ belowFirst s ws (s .h - 1)
   pub slots : records all ≡ wayShown (2 * s .h) (s .z) (s .r) root ws 0
+  pub counted : moved ≡ 2 * (s .h - 1) * recordWords
 
 pub record PairShownRoom (s : Sizes) (ws w one two all : List ℕ) : Type 0 where
   pub some : 1 ≤ s .h

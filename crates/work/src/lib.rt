@@ -10,6 +10,7 @@ pub use pair::work_pair;
 pub use removal::Removed;
 pub use removal::remove_path;
 pub use seating::seat;
+pub use shown::show_pair;
 pub use shown::show_path;
 ghost use Prim.Native.Nat.{_≤_};
 ghost use mathlib.Core.Path.{_≡_};

@@ -1,48 +1,78 @@
--- `load_siblings` meets its contract: the siblings' least records stand one behind the other. Assumes nothing.
+-- `load_siblings` meets its contract: the loop has laid the siblings before its place. Assumes nothing.
 use borrow.Author.Needs.{needs}
-use Rattle.gather.proofs.ShownLaws.{siblings-part}
+use native.Mathlib.Omega.{arith}
+use Prim.Native.Nat.{_-_, _≤_}
+use mathlib.Core.Path.{refl}
+use Rattle.gather.proofs.Loading.{Siblings, siblings-start, siblings-turn, siblings-end}
 use Rattle.gather.proofs.load_siblings.Statement.{statement}
 use Rattle.gather.proofs.load_siblings.Tie as tie
 
-add-from : tie.Need-add-from
+abbrev Inv-loop : tie.InvT-loop
+Inv-loop sibs₀ words whole skip level h z from₀ place₀ moved₀ sibs from place moved = (place ≤ h) × Siblings z words whole skip (level - 1) sibs₀ sibs from place moved
+
+abbrev μ-loop : tie.MeasureT-loop
+μ-loop sibs₀ words whole skip level h z from₀ place₀ moved₀ sibs from place moved = h - place
+
+add-from : tie.Need-add-from Inv-loop μ-loop
 add-from c = search needs
 
-mul-from : tie.Need-mul-from
+mul-from : tie.Need-mul-from Inv-loop μ-loop
 mul-from c = search needs
 
-add-from-2 : tie.Need-add-from-2
+add-from-2 : tie.Need-add-from-2 Inv-loop μ-loop
 add-from-2 c = search needs
 
-sub-copy : tie.Need-sub-copy
-sub-copy c = search needs
+sub-place : tie.Need-sub-place Inv-loop μ-loop
+sub-place c = search needs
 
-add-copy : tie.Need-add-copy
-add-copy c = search needs
+loop-holds : tie.Need-loop-holds Inv-loop μ-loop
+loop-holds c = (search needs, siblings-start _ _ _ _ _ _)
 
-sub-copy-2 : tie.Need-sub-copy-2
-sub-copy-2 c = search needs
+copy-requires : tie.Need-copy-requires Inv-loop μ-loop
+copy-requires c κs =
+    (omega (arith, c .before .before .loop .inv .1 .laid .room, c .before .before .before .before .before .pre), omega (arith, c .before .before .loop .inv .1 .sibling, c .before .before .loop .inv .1 .begun, c .before .before .before .before .before .pre))
 
-copy-requires : tie.Need-copy-requires
-copy-requires c κs = search needs
+add-moved : tie.Need-add-moved Inv-loop μ-loop
+add-moved c =
+    omega (arith, c .before .before .before .before .before .loop .inv .1 .counted, c .before .before .before .before .before .loop .inv .1 .begun, c .before .before .before .before .before .before .before .before .pre)
 
-same-length : tie.Need-same-length
-same-length c = search needs
+add-from-3 : tie.Need-add-from-3 Inv-loop μ-loop
+add-from-3 c =
+    omega (arith, c .before .before .before .before .before .loop .inv .1 .sibling, c .before .before .before .before .before .loop .inv .1 .begun, c .before .before .before .before .before .before .before .before .pre)
 
-returns : tie.Need-returns
+add-place : tie.Need-add-place Inv-loop μ-loop
+add-place c = search needs
+
+loop-less : tie.Need-loop-less Inv-loop μ-loop
+loop-less c = search needs
+
+loop-again : tie.Need-loop-again Inv-loop μ-loop
+loop-again c =
+    (omega arith, siblings-turn _ _ _ _ _ _ _ _ _ _ _ (c .before .before .before .before .before .loop .inv .1) (omega (arith, c .before .before .before .before .before .before .before .before .pre)) (omega (arith, c .before .before .before .before .before .loop .inv .1 .sibling, c .before .before .before .before .before .loop .inv .1 .begun, c .before .before .before .before .before .before .before .before .pre)) (c .before .before .copy .ensures))
+
+same-length : tie.Need-same-length Inv-loop μ-loop
+same-length c = c .before .loop .inv .1 .laid .room
+
+returns : tie.Need-returns Inv-loop μ-loop
 returns c =
-    let s = c .before .before .before .before .before .before .args in
-    rw (← siblings-part (s .sizes .z) (s .words .now) (s .whole) (s .skip) _ (c .before .before .before .before .before .before .pre .1)) (c .before .before .copy .ensures)
+    siblings-end _ _ _ _ _ _ _ _ _ _ _ _ (c .before .loop .inv .1) (omega arith) refl (omega (arith, c .before .before .before .before .pre))
 
 pub load-siblings-spec : {M : Type 1} → statement M
 load-siblings-spec =
     tie.close
     (tie.spec
+    Inv-loop
+    μ-loop
     add-from
     mul-from
     add-from-2
-    sub-copy
-    add-copy
-    sub-copy-2
+    sub-place
+    loop-holds
     copy-requires
+    add-moved
+    add-from-3
+    add-place
+    loop-less
+    loop-again
     same-length
     returns)

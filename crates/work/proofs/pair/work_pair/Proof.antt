@@ -65,7 +65,7 @@ returns c =
     let room = c .before .before .before .before .before .before .before .before .before .before .before .before .before .before .before .before .before .before .before .before .before .before .before .before .before .before .before .before .before .before .before .before .before .before .before .before .before .before .before .pre in
     let top : c .before .before .before .before .before .before .before .before .before .before .before .before .read .result ≡ recordAt (c .before .before .before .before .before .before .before .before .before .before .before .before .before .before .before .before .before .before .before .before .before .before .before .before .before .before .work-path .last .1 .1 .0) 0 = c .before .before .before .before .before .before .before .before .before .before .before .before .read .ensures in
     pair-worked (s .sizes) (s .first) (s .second) (s .new) (s .w .now) (s .beside .now) (s .words .now) (room .some) (room .one .siblings)
-    _ _ _ (c .before .before .before .before .before .before .before .before .before .before .before .before .before .before .before .before .load-siblings .ensures) (c .before .before .before .before .before .before .before .before .before .before .write .ensures) (top ∙ top-read (s .sizes) (s .first) (s .second) (s .new) (s .w .now) (s .beside .now) (s .words .now) (room .some) (room .one .siblings) _ _ _ _ (c .before .before .before .before .before .before .before .before .before .before .before .before .before .before .before .before .before .before .before .before .before .before .before .before .before .before .before .before .before .before .before .before .seat .ensures) (c .before .before .before .before .before .before .before .before .before .before .before .before .before .before .before .before .before .before .before .before .before .before .before .before .before .before .work-path .ensures))
+    _ _ _ (c .before .before .before .before .before .before .before .before .before .before .before .before .before .before .before .before .load-siblings .ensures .laid) (c .before .before .before .before .before .before .before .before .before .before .write .ensures) (top ∙ top-read (s .sizes) (s .first) (s .second) (s .new) (s .w .now) (s .beside .now) (s .words .now) (room .some) (room .one .siblings) _ _ _ _ (c .before .before .before .before .before .before .before .before .before .before .before .before .before .before .before .before .before .before .before .before .before .before .before .before .before .before .before .before .before .before .before .before .seat .ensures) (c .before .before .before .before .before .before .before .before .before .before .before .before .before .before .before .before .before .before .before .before .before .before .before .before .before .before .work-path .ensures))
     _ _ _ _ _ _ _ _ (c .before .before .before .before .before .before .before .before .before .before .before .before .before .before .before .before .before .before .before .before .before .before .before .before .before .before .work-path .kept .0 ∙ c .before .before .before .before .before .before .before .before .before .before .before .before .before .before .before .before .before .before .before .before .before .before .before .before .before .before .before .before .before .before .before .before .seat .kept .0 ∙ room .one .slots) (omega (arith, room .fetched))
     (c .before .before .before .before .before .before .before .before .before .before .before .before .before .before .before .before .before .before .before .before .before .before .before .before .before .before .before .before .before .before .before .before .seat .ensures) (c .before .before .before .before .before .before .before .before .before .before .before .before .before .before .before .before .before .before .before .before .before .before .before .before .before .before .work-path .ensures) (c .before .before .before .before .before .before .before .before .before .before .before .before .before .before .before .before .before .before .before .before .load-path .ensures) (c .before .before .before .before .work-path2 .ensures)
 

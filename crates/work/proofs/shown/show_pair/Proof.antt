@@ -5,12 +5,6 @@ use lib.ListN.{length}
 use Rattle.work.proofs.ShownLaws.{length-mapped, pair-shown}
 use Rattle.work.proofs.shown.show_pair.Statement.{statement}
 use Rattle.work.proofs.shown.show_pair.Tie as tie
-use Rattle.work.proofs.shown.show_pair.Reads as reads
-use Rattle.work.proofs.shown.show_pair.Lts as lts
-use Rattle.gather.proofs.load_path.Reads as load-path-reads
-use Rattle.gather.proofs.load_root.Reads as load-root-reads
-use Rattle.gather.proofs.load_slots.Reads as load-slots-reads
-use Rattle.work.proofs.shown.show_siblings.Reads as show-siblings-reads
 
 load-root-requires : tie.Need-load-root-requires
 load-root-requires c κs = search needs
@@ -36,6 +30,10 @@ mul-load-slots c = search needs
 load-slots-requires : tie.Need-load-slots-requires
 load-slots-requires c κs = search needs
 
+add-result : tie.Need-add-result
+add-result c =
+    omega (arith, c .before .before .before .before .before .before .before .before .before .before .before .before .before .before .show-siblings .ensures .counted, c .before .before .before .before .before .before .before .before .before .before .show-siblings2 .ensures .counted, c .before .before .before .before .before .before .before .before .before .before .before .before .before .before .before .before .before .before .before .before .before .before .before .before .before .before .before .before .before .pre)
+
 same-length : tie.Need-same-length
 same-length c = search needs
 
@@ -52,7 +50,7 @@ returns : tie.Need-returns
 returns c =
     let s = c .before .before .before .before .before .before .before .before .before .before .before .before .before .before .before .before .before .before .before .before .before .before .before .before .before .before .before .before .before .args in
     let full : length (s .root) ≡ 64 = search (needs, length-mapped, c .before .before .before .before .before .before .before .before .before .before .before .before .before .before .before .before .before .before .before .before .before .before .before .before .before .before .before .before .before .good) in
-    pair-shown (s .sizes) (s .root) (s .words .now) (s .w .now) (s .one .now) (s .two .now) (s .all .now) _ _ _ _ _ _ (c .before .before .before .before .before .before .before .before .before .before .before .before .before .before .before .before .before .before .before .before .before .before .before .before .before .before .before .before .before .pre) full (c .before .before .before .before .before .before .before .before .before .before .before .before .before .before .before .before .before .before .before .before .before .before .load-root .ensures) (c .before .before .before .before .before .before .before .before .before .before .before .before .before .before .before .before .before .before .load-path .ensures) (c .before .before .before .before .before .before .before .before .before .before .before .before .before .before .show-siblings .ensures) (c .before .before .before .before .before .before .before .before .before .before .show-siblings2 .ensures) (c .before .before .before .before .before .before .load-root2 .ensures) (c .before .before .load-slots .ensures)
+    pair-shown (s .sizes) (s .root) (s .words .now) (s .w .now) (s .one .now) (s .two .now) (s .all .now) _ _ _ _ _ _ (c .before .before .before .before .before .before .before .before .before .before .before .before .before .before .before .before .before .before .before .before .before .before .before .before .before .before .before .before .before .pre) full (c .before .before .before .before .before .before .before .before .before .before .before .before .before .before .before .before .before .before .before .before .before .before .load-root .ensures) (c .before .before .before .before .before .before .before .before .before .before .before .before .before .before .before .before .before .before .load-path .ensures) _ _ (c .before .before .before .before .before .before .before .before .before .before .before .before .before .before .show-siblings .ensures) (c .before .before .before .before .before .before .before .before .before .before .show-siblings2 .ensures) (c .before .before .before .before .before .before .load-root2 .ensures) (c .before .before .load-slots .ensures)
 
 pub show-pair-spec : {M : Type 1} → statement M
 show-pair-spec =
@@ -66,6 +64,7 @@ show-pair-spec =
     load-root-requires-2
     mul-load-slots
     load-slots-requires
+    add-result
     same-length
     same-length-2
     same-length-3

@@ -30,7 +30,7 @@ returns : tie.Need-returns
 returns c =
     let s = c .before .before .before .before .before .before .before .before .before .before .before .before .before .before .before .args in
     let full : length (s .root) ≡ 64 = search (needs, length-mapped) in
-    path-shown (s .sizes) (s .root) (s .words .now) (s .w .now) (s .sibs .now) _ _ _ (c .before .before .before .before .before .before .before .before .before .before .before .before .before .before .before .pre) full (c .before .before .before .before .before .before .before .before .before .before .load-root .ensures) (c .before .before .before .before .before .before .load-path .ensures) (c .before .before .load-siblings .ensures)
+    path-shown (s .sizes) (s .root) (s .words .now) (s .w .now) (s .sibs .now) _ _ _ (c .before .before .before .before .before .before .before .before .before .before .before .before .before .before .before .pre) full (c .before .before .before .before .before .before .before .before .before .before .load-root .ensures) (c .before .before .before .before .before .before .load-path .ensures) _ (c .before .before .load-siblings .ensures)
 
 pub show-path-spec : {M : Type 1} → statement M
 show-path-spec =

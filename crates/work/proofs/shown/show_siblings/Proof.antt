@@ -23,7 +23,7 @@ same-length c = search needs
 returns : tie.Need-returns
 returns c =
     let s = c .before .before .before .before .before .before .before .before .before .before .args in
-    siblings-shown (s .sizes) (s .skip) (s .words .now) (s .sibs .now) _ _ (c .before .before .before .before .before .before .before .before .before .before .pre) (c .before .before .before .before .before .before .write .ensures) (c .before .before .load-siblings .ensures)
+    siblings-shown (s .sizes) (s .skip) (s .words .now) (s .sibs .now) _ _ (c .before .before .before .before .before .before .before .before .before .before .pre) (c .before .before .before .before .before .before .write .ensures) _ (c .before .before .load-siblings .ensures)
 
 pub show-siblings-spec : {M : Type 1} → statement M
 show-siblings-spec =
