@@ -25,11 +25,13 @@ use Rattle.card.specs.declared.Waiting.{Waiting}
 use Rattle.card.specs.declared.Waiting.the-variants.{Nothing, Insert, Extract, Delete}
 use Rattle.card.specs.declared.Answer.the-variants.{Listed}
 use Rattle.card.specs.Tables.{leavesIn, nextStamp, badLabel, insertRows, extractRows, deleteRows, requestRows, requestTable, waits}
-use Rattle.card.specs.BadCard.{badCard, oddLeast}
+use Rattle.card.specs.BadCard.{badCard}
+use Rattle.judge.specs.BadParts.{oddLeast}
 use Rattle.card.specs.Answers.{refused}
 use Rattle.card.specs.Calls.{listOf, roomFor, beginTable, withWaiting, begun, Begins}
 use Rattle.card.proofs.AnswerLaws.{is-refused, is-done}
-use Rattle.card.proofs.GoodLaws.{Good, good, neither}
+use Rattle.card.proofs.GoodLaws.{Good, good}
+use Rattle.judge.proofs.FitLaws.{neither}
 
 -- every row of a request's table has a number
 pub request-numbered : (k : Card) (w : Waiting) → Numbered (requestTable k w)

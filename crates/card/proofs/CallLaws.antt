@@ -18,7 +18,7 @@ use Rattle.card.specs.declared.Card.{Card}
 use Rattle.card.specs.declared.Waiting.{Waiting}
 use Rattle.card.specs.declared.Waiting.the-variants.{Nothing, Insert, Extract, Delete}
 use Rattle.card.specs.Tables.{requestRows}
-use Rattle.card.specs.BadCard.{oddLeast}
+use Rattle.judge.specs.BadParts.{oddLeast}
 use Rattle.card.specs.Calls.{freshCard, listOf, withWaiting}
 use Rattle.card.proofs.GoodLaws.{Good}
 use Rattle.card.proofs.BeginLaws.{Accepted}

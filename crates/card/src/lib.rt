@@ -2,9 +2,9 @@
 // slots, the root's least record and the waiting request, if any."
 //
 // A card is a value that goes in with a call and comes out of it. Every call answers, whatever numbers the card holds.
-// Stands on `record`, `path`, `refusal`, `root`.
+// Stands on `record`, `path`, `refusal`, `root`, `judge`.
 mod calls;
-mod judge;
+mod request;
 mod why;
 
 use path::Sizes;

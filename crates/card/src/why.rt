@@ -9,10 +9,9 @@ ghost use Rattle.card.specs.BadCard.{badCard};
 ghost use Rattle.card.specs.Calls.{roomFor, beginTable, minTable, withdrawTable};
 use crate::Card;
 use crate::Waiting;
-use crate::judge::ROOT_PLACES;
-use crate::judge::is_bad;
-use crate::judge::is_waiting;
-use crate::judge::why_request;
+use crate::request::is_waiting;
+use crate::request::why_request;
+use judge::ROOT_PLACES;
 use path::Sizes;
 use refusal::BAD_CARD;
 use refusal::BUSY;
@@ -56,7 +55,10 @@ fn is_bad_card(card: Card, places: &mut [u64]) -> bool
     let root = card.root;
     let waiting = card.waiting;
     gather::load_root(places, root, ROOT_PLACES);
-    is_bad(places, card.sizes, card.t, card.c, card.least, waiting)
+    if judge::are_parts_bad(places, card.sizes, card.t, card.c, card.least) {
+        return true;
+    }
+    why_request(places, card.sizes, card.t, card.c, waiting) != 0
 }
 
 pub(crate) fn why_min(card: Card) -> u64

@@ -7,8 +7,8 @@ use Rattle.record.proofs.WordsLaws.{records-take}
 use Rattle.refusal.specs.Refusal.{firstGiven}
 use Rattle.root.specs.Root.{rootFull}
 use Rattle.card.specs.Tables.{insertRows}
-use Rattle.card.proofs.judge.why_insert.Statement.{statement}
-use Rattle.card.proofs.judge.why_insert.Tie as tie
+use Rattle.card.proofs.request.why_insert.Statement.{statement}
+use Rattle.card.proofs.request.why_insert.Tie as tie
 
 returns : tie.Need-returns
 unfolding firstGiven insertRows

@@ -3,9 +3,9 @@ use mathlib.Core.Path.{sym, ap, _∙_}
 use mathlib.Core.Bool.{not, or-false}
 use borrow.Author.Tests.{eq-eqb, ne-eqb}
 use Rattle.record.specs.Standing.{mayStand}
-use Rattle.card.specs.BadCard.{oddLeast}
-use Rattle.card.proofs.judge.is_least_odd.Statement.{statement}
-use Rattle.card.proofs.judge.is_least_odd.Tie as tie
+use Rattle.judge.specs.BadParts.{oddLeast}
+use Rattle.judge.proofs.is_least_odd.Statement.{statement}
+use Rattle.judge.proofs.is_least_odd.Tie as tie
 
 is-dummy-requires : tie.Need-is-dummy-requires
 is-dummy-requires c κs = search needs

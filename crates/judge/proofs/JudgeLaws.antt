@@ -1,12 +1,10 @@
 -- BadCard as the code works it out: one pass finds what three clauses ask of the root's slots. Assumes nothing.
 use Prim.Native.Nat.{ℕ, _*_, _-_}
 use mathlib.Core.Bool.{Bool, true, false, not, _&&_, _||_, or-true, or-false}
-use mathlib.Core.List.{List, map}
+use mathlib.Core.List.{List}
 use mathlib.Core.Path.{_≡_, refl, sym, ap, _∙_}
 use lib.Dec.{ltb, leb}
-use lib.ListN.{length, take, drop, length-map}
-use lib.Seq.{take-all}
-use native.Mathlib.Omega.{arith}
+use lib.ListN.{length, take, drop}
 use borrow.Rule.Slice.PartAt.{part-to-end}
 use borrow.Author.Tests.{leb-true, leb-false, lt-ltb, le-ltb}
 use Rattle.record.specs.declared.Stamp.{Stamp}
@@ -16,12 +14,10 @@ use Rattle.record.specs.Order.{noLater}
 use Rattle.record.specs.Many.{every, reals, stampTwice}
 use Rattle.record.specs.Words.{records}
 use Rattle.record.proofs.WordsLaws.{records-take, records-drop}
-use Rattle.gather.specs.Laid.{laidOver}
-use Rattle.gather.proofs.LaidLaws.{laid-last}
+use Rattle.path.specs.declared.sizes.Sizes.{Sizes}
+use Rattle.path.specs.Sizes.{leavesOf}
 use Rattle.root.specs.Root.{strangeSlot, usedPast, stampShared, rootRecords, greaterThanSome, slotsFine}
-use Rattle.card.specs.declared.Card.{Card}
-use Rattle.card.specs.Tables.{leavesIn, nextStamp}
-use Rattle.card.specs.BadCard.{badSizes, overSpent, overLive, badRoot, badLeast, badWaiting, badCard, oddLeast, rootBad}
+use Rattle.judge.specs.BadParts.{stampOf, badSizes, overSpent, overLive, badRoot, badLeast, badParts, oddLeast, rootBad}
 
 not-leb : (a b : ℕ) → not (leb a b) ≡ ltb b a
 not-leb a b = (elim (leb a b) as (λ t. leb a b ≡ t → not t ≡ ltb b a) [
@@ -30,35 +26,35 @@ not-leb a b = (elim (leb a b) as (λ t. leb a b ≡ t → not t ≡ ltb b a) [
 ]) refl
 
 -- the slots stand (s), none is before the least (g), few enough (m), the rest as they are
-regroup : (s g m p d o w : Bool)
-    → ((not s || (p || (d || not m))) || ((o || not g) || w)) ≡ ((not (s && (g && m)) || (p || d)) || (o || w))
-regroup false g m p d o w = refl
-regroup true false m p d o w = simp or-true
-regroup true true false p d o w = simp or-true
-regroup true true true p d o w = simp or-false
+regroup : (s g m p d o : Bool)
+    → ((not s || (p || (d || not m))) || (o || not g)) ≡ ((not (s && (g && m)) || (p || d)) || o)
+regroup false g m p d o = refl
+regroup true false m p d o = simp or-true
+regroup true true false p d o = simp or-true
+regroup true true true p d o = simp or-false
 
-module _ (k : Card) where
+module _ (s : Sizes) (t c : ℕ) (root : List Record) (least : Record) where
   abbrev slots : List Record
-  slots = take (k .sizes .r) (k .root)
+  slots = take (s .r) root
 
-  pub root-regroups :
-      (badRoot k || (badLeast k || badWaiting k))
-      ≡ (rootBad (k .sizes .r) (k .root) (leavesIn k) (nextStamp k) (k .c) (k .least)
-      || (oddLeast (leavesIn k) (nextStamp k) (k .c) (k .least) || badWaiting k))
+  abbrev n : ℕ
+  n = leavesOf (s .h)
+
+  root-regroups :
+      (badRoot s t c root least || badLeast s t c root least)
+      ≡ (rootBad (s .r) root n (stampOf t) c least || oddLeast n (stampOf t) c least)
   unfolding strangeSlot usedPast stampShared rootRecords greaterThanSome slotsFine
   root-regroups =
-      rw (← not-leb (reals slots) (k .c))
-      (regroup (every (mayStand (leavesIn k) (nextStamp k)) slots) (every (λ x. isDummy x || noLater (k .least) x) slots)
-      (leb (reals slots) (k .c)) (usedPast (k .sizes .r) (k .root)) (stampShared (k .sizes .r) (k .root))
-      (oddLeast (leavesIn k) (nextStamp k) (k .c) (k .least)) (badWaiting k))
+      rw (← not-leb (reals slots) c)
+      (regroup (every (mayStand n (stampOf t)) slots) (every (λ x. isDummy x || noLater least x) slots)
+      (leb (reals slots) c) (usedPast (s .r) root) (stampShared (s .r) root) (oddLeast n (stampOf t) c least))
 
   -- BadCard, one test after the other
   pub bad-in-turn :
-      badCard k
-      ≡ (badSizes k || (overSpent k || (overLive k
-      || (rootBad (k .sizes .r) (k .root) (leavesIn k) (nextStamp k) (k .c) (k .least)
-      || (oddLeast (leavesIn k) (nextStamp k) (k .c) (k .least) || badWaiting k)))))
-  unfolding badCard
+      badParts s t c root least
+      ≡ (badSizes s t c root least || (overSpent s t c root least || (overLive s t c root least
+      || (rootBad (s .r) root n (stampOf t) c least || oddLeast n (stampOf t) c least))))
+  unfolding badParts
   bad-in-turn = rw root-regroups
 
 -- what the pass over slots, places past them and stamps says of the root whose words are ws
@@ -86,13 +82,3 @@ module _ (ws : List ℕ) (r n : ℕ) (next : Stamp) (c : ℕ) (least : Record) w
       pub stamps-told : (t : Bool) → not none ≡ false → t ≡ stampTwice (records (take (4 * r) ws)) → t ≡ bad
       unfolding stampShared
       stamps-told t e f = rw (slots-found, good, past-found, e) (f ∙ ap stampTwice (records-take ws r))
-
--- the length of a field that is an array of structs, from what owning the struct tells
-pub length-mapped : (X Y : Type 0) (f : X → Y) (l : List X) (n : ℕ) → length (map f l) ≡ n → length l ≡ n
-length-mapped X Y f l n p = sym (length-map l f) ∙ p
-
--- the root's 64 places, laid over as many words
-pub root-laid : (ws : List ℕ) (root : List Record) → length root ≡ 64 → length ws ≡ 256
-    → records (laidOver ws 0 (take 64 root)) ≡ root
-root-laid ws root h l =
-    rw (take-all 64 root (omega arith)) (laid-last ws 0 root (omega arith) (omega arith))

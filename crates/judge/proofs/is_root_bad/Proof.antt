@@ -2,9 +2,9 @@ use borrow.Author.Needs.{needs}
 use native.Mathlib.Omega.{arith}
 use mathlib.Core.Path.{sym}
 use lib.Seq.{length-take-le}
-use Rattle.card.proofs.JudgeLaws.{slots-bad, past-bad, stamps-told}
-use Rattle.card.proofs.judge.is_root_bad.Statement.{statement}
-use Rattle.card.proofs.judge.is_root_bad.Tie as tie
+use Rattle.judge.proofs.JudgeLaws.{slots-bad, past-bad, stamps-told}
+use Rattle.judge.proofs.is_root_bad.Statement.{statement}
+use Rattle.judge.proofs.is_root_bad.Tie as tie
 
 mul-end : tie.Need-mul-end
 mul-end c = search needs

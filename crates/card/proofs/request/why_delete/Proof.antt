@@ -4,8 +4,8 @@ use mathlib.Core.Bool.{not}
 use borrow.Author.Tests.{eq-eqb, ne-eqb, le-leb, lt-leb}
 use Rattle.refusal.specs.Refusal.{firstGiven}
 use Rattle.card.specs.Tables.{deleteRows}
-use Rattle.card.proofs.judge.why_delete.Statement.{statement}
-use Rattle.card.proofs.judge.why_delete.Tie as tie
+use Rattle.card.proofs.request.why_delete.Statement.{statement}
+use Rattle.card.proofs.request.why_delete.Tie as tie
 
 returns : tie.Need-returns
 unfolding firstGiven deleteRows

@@ -1,19 +1,17 @@
-// When a request is refused, and when a card is bad: document 01, "Refusal numbers". The root goes in as words, four to
+// When a request is refused with a number from 4 to 10: document 01, "Refusal numbers". The root goes in as words, four to
 // a place, so that nothing copies 64 records.
 ghost use mathlib.Core.Path.{_≡_};
 ghost use Prim.Native.Nat.{_≤_, _*_};
 ghost use lib.ListN.{length};
 ghost use Rattle.record.specs.Words.{records};
 ghost use Rattle.refusal.specs.Refusal.{firstGiven};
-ghost use Rattle.card.specs.Tables.{insertRows, extractRows, deleteRows, requestRows, waits, cardOf};
-ghost use Rattle.card.specs.BadCard.{oddLeast, rootBad, badCard};
+ghost use Rattle.card.specs.Tables.{insertRows, extractRows, deleteRows, requestRows, waits};
 use crate::Waiting;
 use path::Sizes;
 use path::leaves;
 use record::DUMMY_KEY;
 use record::Leaf;
 use record::RECORD_WORDS;
-use record::Record;
 use record::Stamp;
 use refusal::BAD_KEY;
 use refusal::BAD_LEAF;
@@ -22,9 +20,6 @@ use refusal::EMPTY;
 use refusal::FULL;
 use refusal::OVERFLOW;
 use refusal::SPENT;
-
-// How many places a card's root has; R of them are slots.
-pub(crate) const ROOT_PLACES: usize = 64;
 
 pub(crate) fn is_waiting(waiting: Waiting) -> bool
     ensures { λ r. ⌜ r ≡ waits waiting ⌝ }
@@ -132,65 +127,4 @@ pub(crate) fn why_request(root: &[u64], sizes: Sizes, t: u64, c: u64, request: W
         Waiting::Extract => why_extract(sizes, t, c),
         Waiting::Delete { label, stamp } => why_delete(sizes, t, c, label, stamp),
     }
-}
-
-fn is_least_odd(n: u64, next: Stamp, c: u64, least: Record) -> bool
-    ensures { λ r. ⌜ r ≡ oddLeast n next c least ⌝ }
-{
-    if least.is_dummy() {
-        return c > 0;
-    }
-    if c == 0 {
-        return true;
-    }
-    !least.is_proper(n, next)
-}
-
-// What BadCard asks of the root, in one pass over its slots, one over the places past them, and the stamps.
-fn is_root_bad(root: &[u64], r: usize, n: u64, next: Stamp, c: u64, least: Record) -> bool
-    requires { ⌜ (r ≤ 64) × (length (now root) ≡ 256) ⌝ }
-    ensures { λ b. ⌜ b ≡ rootBad r (records (now (root .entry))) n next c least ⌝ }
-{
-    let end = RECORD_WORDS * r;
-    if !root::slots_fine(&root[..end], r, n, next, least, c) {
-        return true;
-    }
-    if !root::all_dummies(&root[end..], ROOT_PLACES - r) {
-        return true;
-    }
-    way::stamp_twice(&root[..end])
-}
-
-// BadCard, whatever the card's numbers are.
-pub(crate) fn is_bad(
-    root: &[u64],
-    sizes: Sizes,
-    t: u64,
-    c: u64,
-    least: Record,
-    waiting: Waiting,
-) -> bool
-    requires { ⌜ length (now root) ≡ 256 ⌝ }
-    ensures { λ b. ⌜ b ≡ badCard (cardOf sizes t c (records (now (root .entry))) least waiting) ⌝ }
-{
-    if !sizes.in_range() {
-        return true;
-    }
-    if t > sizes.t {
-        return true;
-    }
-    let n = leaves(sizes.h);
-    if c > n {
-        return true;
-    }
-    if c > t {
-        return true;
-    }
-    if is_root_bad(root, sizes.r as usize, n, Stamp(t), c, least) {
-        return true;
-    }
-    if is_least_odd(n, Stamp(t), c, least) {
-        return true;
-    }
-    why_request(root, sizes, t, c, waiting) != 0
 }

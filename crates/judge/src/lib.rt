@@ -1,0 +1,67 @@
+// BadCard on a card's parts, all but the waiting request: document 01, "Refusal numbers". The root goes in as words, four to
+// a place, so that nothing copies 64 records. The card that a call is given and the card that a finish would send out are
+// judged by the same function. Stands on `record`, `path`, `root`, `way`.
+ghost use mathlib.Core.Path.{_≡_};
+ghost use Prim.Native.Nat.{_≤_};
+ghost use lib.ListN.{length};
+ghost use Rattle.record.specs.Words.{records};
+ghost use Rattle.judge.specs.BadParts.{oddLeast, rootBad, badParts};
+use path::Sizes;
+use path::leaves;
+use record::RECORD_WORDS;
+use record::Record;
+use record::Stamp;
+
+// How many places a card's root has; R of them are slots.
+pub const ROOT_PLACES: usize = 64;
+
+fn is_least_odd(n: u64, next: Stamp, c: u64, least: Record) -> bool
+    ensures { λ r. ⌜ r ≡ oddLeast n next c least ⌝ }
+{
+    if least.is_dummy() {
+        return c > 0;
+    }
+    if c == 0 {
+        return true;
+    }
+    !least.is_proper(n, next)
+}
+
+// What BadCard asks of the root, in one pass over its slots, one over the places past them, and the stamps.
+fn is_root_bad(root: &[u64], r: usize, n: u64, next: Stamp, c: u64, least: Record) -> bool
+    requires { ⌜ (r ≤ 64) × (length (now root) ≡ 256) ⌝ }
+    ensures { λ b. ⌜ b ≡ rootBad r (records (now (root .entry))) n next c least ⌝ }
+{
+    let end = RECORD_WORDS * r;
+    if !root::slots_fine(&root[..end], r, n, next, least, c) {
+        return true;
+    }
+    if !root::all_dummies(&root[end..], ROOT_PLACES - r) {
+        return true;
+    }
+    way::stamp_twice(&root[..end])
+}
+
+// For crates above: BadCard but for the waiting request, whatever the numbers are.
+pub fn are_parts_bad(root: &[u64], sizes: Sizes, t: u64, c: u64, least: Record) -> bool
+    requires { ⌜ length (now root) ≡ 256 ⌝ }
+    ensures { λ b. ⌜ b ≡ badParts sizes t c (records (now (root .entry))) least ⌝ }
+{
+    if !sizes.in_range() {
+        return true;
+    }
+    if t > sizes.t {
+        return true;
+    }
+    let n = leaves(sizes.h);
+    if c > n {
+        return true;
+    }
+    if c > t {
+        return true;
+    }
+    if is_root_bad(root, sizes.r as usize, n, Stamp(t), c, least) {
+        return true;
+    }
+    is_least_odd(n, Stamp(t), c, least)
+}
