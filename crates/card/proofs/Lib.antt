@@ -1,5 +1,4 @@
 -- The laws of the card that crates above cite.
-pub mod RootLaws
 pub mod GoodLaws
 pub mod AnswerLaws
 pub mod BeginLaws

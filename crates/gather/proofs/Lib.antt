@@ -4,3 +4,4 @@ pub mod ShownLaws
 pub mod LoadedLaws
 pub mod RemovalLaws
 pub mod Loading
+pub mod RootLaws

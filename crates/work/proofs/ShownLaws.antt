@@ -1,9 +1,9 @@
 -- What is in the scratches once they are loaded. Assumes nothing.
 use Prim.Native.Nat.{ℕ, _+_, _*_, _-_, _≤_}
-use mathlib.Core.List.{List, [], _∷_, _++_, map}
-use mathlib.Core.Path.{_≡_, sym, ap, _∙_}
+use mathlib.Core.List.{List, [], _∷_, _++_}
+use mathlib.Core.Path.{_≡_, ap, _∙_}
 use native.Mathlib.Omega.{arith}
-use lib.ListN.{length, take, length-map}
+use lib.ListN.{length, take}
 use lib.Seq.{take-suc-set}
 use Rattle.record.specs.declared.Record.{Record}
 use Rattle.record.specs.Standing.{dummy}
@@ -16,10 +16,6 @@ use Rattle.gather.proofs.LaidLaws.{laid-last}
 use Rattle.gather.proofs.ShownLaws.{siblings-length}
 use Rattle.gather.proofs.LoadedLaws.{way-loaded}
 use Rattle.work.specs.Work.{PathShown, PathRoom, SiblingRoom, SiblingsBelow, PairShown, PairShownRoom}
-
--- the length of an array of structs, from what owning it tells
-pub length-mapped : (X Y : Type 0) (f : X → Y) (l : List X) (n : ℕ) → length (map f l) ≡ n → length l ≡ n
-length-mapped X Y f l n p = sym (length-map l f) ∙ p
 
 pub path-shown :
     (s : Sizes) (root : List Record) (ws w₀ b₀ w₁ w₂ b₁ : List ℕ) → PathRoom s ws w₀ b₀ → length root ≡ 64

@@ -76,7 +76,10 @@ module _ (s : Sizes) (first second : Leaf) (new : Record) (beside₁ beside₂ :
   abbrev pub secondBuckets : List Contents
   secondBuckets = pathBuckets s second secondBeside secondWay
 
--- the siblings of an Insert's second path from level 2 on: behind both paths' whole buckets and the first path's siblings
+-- the siblings of an Insert's first path from level 2 on, behind both paths' whole buckets; and of its second, behind these
+abbrev pub firstSiblings : Sizes → List ℕ → ℕ → Record
+firstSiblings s ws d = siblingAt (s .z) ws (2 * s .h) (d - 2)
+
 abbrev pub secondSiblings : Sizes → List ℕ → ℕ → Record
 secondSiblings s ws d = siblingAt (s .z) ws (2 * s .h) (s .h - 1 + (d - 2))
 

@@ -10,7 +10,7 @@ use Rattle.path.proofs.SizesLaws.{in-range}
 use Rattle.judge.specs.BadParts.{badParts}
 use Rattle.judge.proofs.FitLaws.{fit}
 use Rattle.card.specs.BadCard.{badCard}
-use Rattle.card.proofs.RootLaws.{length-mapped, root-laid}
+use Rattle.gather.proofs.RootLaws.{length-mapped, root-laid}
 use Rattle.card.proofs.why.is_bad_card.Statement.{statement}
 use Rattle.card.proofs.why.is_bad_card.Tie as tie
 

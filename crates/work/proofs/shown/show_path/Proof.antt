@@ -2,7 +2,8 @@ use borrow.Author.Needs.{needs}
 use native.Mathlib.Omega.{arith}
 use mathlib.Core.Path.{_≡_}
 use lib.ListN.{length}
-use Rattle.work.proofs.ShownLaws.{length-mapped, path-shown}
+use Rattle.gather.proofs.RootLaws.{length-mapped}
+use Rattle.work.proofs.ShownLaws.{path-shown}
 use Rattle.work.proofs.shown.show_path.Statement.{statement}
 use Rattle.work.proofs.shown.show_path.Tie as tie
 use Rattle.work.proofs.shown.show_path.Reads as reads

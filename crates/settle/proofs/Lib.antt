@@ -1,0 +1,3 @@
+-- The laws of a finish on the card's parts.
+pub mod PreparedLaws
+pub mod RemovalLaws

@@ -1,0 +1,51 @@
+-- A finish that is Damaged, one that is worked out, and one that is written. Assumes nothing.
+use Prim.Native.Nat.{ℕ, _+_, _*_}
+use mathlib.Core.Bool.{Bool, true, false, true≢false}
+use mathlib.Core.List.{List, _++_}
+use mathlib.Core.Path.{_≡_, refl, sym, ap, _∙_}
+use lib.ListN.{length, drop}
+use Rattle.record.specs.declared.Record.{Record}
+use Rattle.path.specs.Layout.{recordWords}
+use Rattle.mend.specs.Mended.{pathWords}
+use Rattle.settle.specs.declared.Settled.{Settled}
+use Rattle.settle.specs.Left.{Left}
+use Rattle.settle.specs.Settled.{settled, unsettled, Prepares, Settles}
+
+module _ (root : List Record) (least : Record) (c : ℕ) (damaged : Bool) (l : Left) (siblings : ℕ) (path : List ℕ) (out : Settled) where
+  pub not-prepared : damaged ≡ true → out ≡ unsettled root least c → Prepares root least c damaged l siblings path out
+  not-prepared e f = record { whole = rw e f; ready = λ g. absurd (true≢false (sym e ∙ g)) }
+
+  pub prepared : damaged ≡ false → out ≡ settled l (siblings * recordWords) → path ≡ pathWords (l .buckets)
+      → Prepares root least c damaged l siblings path out
+  prepared e f g = record { whole = rw e f; ready = λ d. g }
+
+  module _ (p : Prepares root least c damaged l siblings path out) where
+    told : (d : Bool) → damaged ≡ d → out .damaged ≡ d
+    told true e = ap (λ (o : Settled). o .damaged) (rw e at (p .whole))
+    told false e = ap (λ (o : Settled). o .damaged) (rw e at (p .whole))
+
+    is-damaged : out .damaged ≡ damaged
+    is-damaged = told damaged refl
+
+    -- nothing was written
+    pub not-settled : (moved : ℕ) (ws : List ℕ) → out .damaged ≡ true → Settles root least c damaged l moved ws ws out
+    not-settled moved ws e =
+        let d = sym is-damaged ∙ e in
+        record { whole = rw d (rw d at (p .whole)); words = rw d }
+
+    -- the buckets were written, and the words moved for them counted
+    module _ (ready : out .damaged ≡ false) where
+      pub buckets-ready : path ≡ pathWords (l .buckets)
+      buckets-ready = p .ready (sym is-damaged ∙ ready)
+
+      pub counted-so-far : out .moved ≡ siblings * recordWords
+      counted-so-far = ap (λ (o : Settled). o .moved) (rw (sym is-damaged ∙ ready) at (p .whole))
+
+      pub is-settled : (moved stores : ℕ) (before after : List ℕ) → siblings * recordWords + stores ≡ moved
+          → after ≡ path ++ drop (length path) before
+          → Settles root least c damaged l moved before after
+          (record { root = out .root; least = out .least; c = out .c; found = out .found; moved = out .moved + stores; damaged = out .damaged })
+      is-settled moved stores before after count e =
+          let d = sym is-damaged ∙ ready in
+          let w : out ≡ settled l (siblings * recordWords) = rw d at (p .whole) in
+          record { whole = rw (d, w, ← count); words = rw (d, ← buckets-ready) e }

@@ -1,0 +1,97 @@
+// A finish on the card's parts: document 01, "Finish takes the fetched words in list order. It works, then each bucket's part
+// of the fetched words is written where it stands". What was fetched is looked at, all is worked out in scratches, the card
+// that would come out is judged, and only then a word is written. Damaged words leave everything as it came.
+//
+// The card looks at itself and at the room first (13, 3, 11). Stands on `work`, `damage`, `judge`, `mend` and what is below.
+
+mod removal;
+
+pub use removal::settle_removal;
+ghost use mathlib.Core.Path.{_≡_};
+ghost use mathlib.Core.Bool.{cond};
+ghost use Prim.Native.Nat.{_+_, _*_, _-_, _≤_};
+ghost use Rattle.path.specs.Layout.{bucketWords};
+ghost use Rattle.judge.specs.BadParts.{badParts};
+ghost use Rattle.settle.specs.Room.{Cut};
+ghost use Rattle.settle.specs.Settled.{unsettled};
+use judge::ROOT_PLACES;
+use path::Sizes;
+use record::RECORD_WORDS;
+use record::Record;
+
+// What a finish makes of the card's parts, whether a record was found to remove, and the words moved; or, where it is
+// Damaged, the parts as they came.
+pub struct Settled {
+    pub root: [Record; 64],
+    pub least: Record,
+    pub c: u64,
+    pub found: bool,
+    pub moved: u64,
+    pub damaged: bool,
+}
+
+// The longest scratches, for sizes at the top of their ranges: a way's slots, with one path's or both; a path's siblings;
+// a path's buckets.
+const WAY_MOST: usize = 576;
+
+const WAYS_MOST: usize = 896;
+
+const SIBLINGS_MOST: usize = 64;
+
+const PATH_MOST: usize = 384;
+
+// The words of a scratch with the root's slots and those of so many buckets.
+fn way_words(sizes: Sizes, buckets: usize) -> usize
+    requires { ⌜ (Cut sizes) × (buckets ≤ 32) ⌝ }
+    ensures { λ n. ⌜ (n ≡ 4 * (sizes .r + sizes .z * buckets)) × (n ≤ 256 + 20 * buckets) ⌝ }
+{
+    let r = sizes.r as usize;
+    let z = sizes.z as usize;
+    RECORD_WORDS * (r + z * buckets)
+}
+
+// The words of a path's whole buckets.
+fn path_words(sizes: Sizes) -> usize
+    requires { ⌜ Cut sizes ⌝ }
+    ensures { λ n. ⌜ (n ≡ sizes .h * bucketWords (sizes .z)) × (n ≤ 384) ⌝ }
+{
+    let h = sizes.h as usize;
+    let z = sizes.z as usize;
+    h * (RECORD_WORDS * (z + 1))
+}
+
+// Damaged: "card and lent slices are as before".
+fn unsettled(root: [Record; 64], least: Record, c: u64) -> Settled
+    ensures { λ out. ⌜ out ≡ unsettled root least c ⌝ }
+{
+    Settled {
+        root: root,
+        least: least,
+        c: c,
+        found: false,
+        moved: 0,
+        damaged: true,
+    }
+}
+
+// "or the card that would come out is a BadCard": no request waits on it.
+fn comes_out_bad(root: [Record; 64], sizes: Sizes, t: u64, c: u64, least: Record) -> bool
+    ensures { λ b. ⌜ b ≡ badParts sizes t c root least ⌝ }
+{
+    let mut places = [0u64; 256];
+    gather::load_root(&mut places, root, ROOT_PLACES);
+    judge::are_parts_bad(&places, sizes, t, c, least)
+}
+
+// The live events after a removal. None is live where none is found, so c - 1 never wraps.
+fn live_after(c: u64, found: bool) -> u64
+    ensures { λ n. ⌜ n ≡ cond found (c - 1) c ⌝ }
+{
+    if !found {
+        return c;
+    }
+    if c == 0 {
+        return 0;
+    }
+    c - 1
+}
