@@ -1,3 +1,2 @@
 -- The laws of a finish on the card's parts.
 pub mod PreparedLaws
-pub mod RemovalLaws

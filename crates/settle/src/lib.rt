@@ -1,15 +1,9 @@
-// A finish on the card's parts: document 01, "Finish takes the fetched words in list order. It works, then each bucket's part
-// of the fetched words is written where it stands". What was fetched is looked at, all is worked out in scratches, the card
-// that would come out is judged, and only then a word is written. Damaged words leave everything as it came.
-//
-// The card looks at itself and at the room first (13, 3, 11). Stands on `work`, `damage`, `judge`, `mend` and what is below.
-
-mod removal;
-
-pub use removal::settle_removal;
+// What every finish on the card's parts hands back, the length of its scratches, and the judgement of the card that would come
+// out. Each finish looks at what was fetched, works all out in scratches, judges, and only then writes a word: document 01,
+// "card and lent slices are as before" where it is Damaged. Stands on `judge` and `gather`, and on the definitions of `work`
+// and `damage`.
 ghost use mathlib.Core.Path.{_≡_};
-ghost use mathlib.Core.Bool.{cond};
-ghost use Prim.Native.Nat.{_+_, _*_, _-_, _≤_};
+ghost use Prim.Native.Nat.{_+_, _*_, _≤_};
 ghost use Rattle.path.specs.Layout.{bucketWords};
 ghost use Rattle.judge.specs.BadParts.{badParts};
 ghost use Rattle.settle.specs.Room.{Cut};
@@ -32,16 +26,16 @@ pub struct Settled {
 
 // The longest scratches, for sizes at the top of their ranges: a way's slots, with one path's or both; a path's siblings;
 // a path's buckets.
-const WAY_MOST: usize = 576;
+pub const WAY_MOST: usize = 576;
 
-const WAYS_MOST: usize = 896;
+pub const WAYS_MOST: usize = 896;
 
-const SIBLINGS_MOST: usize = 64;
+pub const SIBLINGS_MOST: usize = 64;
 
-const PATH_MOST: usize = 384;
+pub const PATH_MOST: usize = 384;
 
-// The words of a scratch with the root's slots and those of so many buckets.
-fn way_words(sizes: Sizes, buckets: usize) -> usize
+// For crates above: the words of a scratch with the root's slots and those of so many buckets.
+pub fn way_words(sizes: Sizes, buckets: usize) -> usize
     requires { ⌜ (Cut sizes) × (buckets ≤ 32) ⌝ }
     ensures { λ n. ⌜ (n ≡ 4 * (sizes .r + sizes .z * buckets)) × (n ≤ 256 + 20 * buckets) ⌝ }
 {
@@ -50,8 +44,8 @@ fn way_words(sizes: Sizes, buckets: usize) -> usize
     RECORD_WORDS * (r + z * buckets)
 }
 
-// The words of a path's whole buckets.
-fn path_words(sizes: Sizes) -> usize
+// For crates above: the words of a path's whole buckets.
+pub fn path_words(sizes: Sizes) -> usize
     requires { ⌜ Cut sizes ⌝ }
     ensures { λ n. ⌜ (n ≡ sizes .h * bucketWords (sizes .z)) × (n ≤ 384) ⌝ }
 {
@@ -60,8 +54,8 @@ fn path_words(sizes: Sizes) -> usize
     h * (RECORD_WORDS * (z + 1))
 }
 
-// Damaged: "card and lent slices are as before".
-fn unsettled(root: [Record; 64], least: Record, c: u64) -> Settled
+// For crates above: Damaged, the parts as they came.
+pub fn unsettled(root: [Record; 64], least: Record, c: u64) -> Settled
     ensures { λ out. ⌜ out ≡ unsettled root least c ⌝ }
 {
     Settled {
@@ -74,24 +68,11 @@ fn unsettled(root: [Record; 64], least: Record, c: u64) -> Settled
     }
 }
 
-// "or the card that would come out is a BadCard": no request waits on it.
-fn comes_out_bad(root: [Record; 64], sizes: Sizes, t: u64, c: u64, least: Record) -> bool
+// For crates above: "or the card that would come out is a BadCard"; no request waits on it.
+pub fn comes_out_bad(root: [Record; 64], sizes: Sizes, t: u64, c: u64, least: Record) -> bool
     ensures { λ b. ⌜ b ≡ badParts sizes t c root least ⌝ }
 {
     let mut places = [0u64; 256];
     gather::load_root(&mut places, root, ROOT_PLACES);
     judge::are_parts_bad(&places, sizes, t, c, least)
-}
-
-// The live events after a removal. None is live where none is found, so c - 1 never wraps.
-fn live_after(c: u64, found: bool) -> u64
-    ensures { λ n. ⌜ n ≡ cond found (c - 1) c ⌝ }
-{
-    if !found {
-        return c;
-    }
-    if c == 0 {
-        return 0;
-    }
-    c - 1
 }

@@ -1,25 +1,41 @@
-// The finish of ExtractMin and Delete: document 01, "replaces the root's least record, wherever it is on the path, by the
-// dummy; Delete does so with the record that has this label and stamp, or answers Absent and removes nothing. Then the path
-// is evicted."
+// The finish of ExtractMin and Delete on the card's parts: document 01, "replaces the root's least record, wherever it is on
+// the path, by the dummy; Delete does so with the record that has this label and stamp, or answers Absent and removes
+// nothing. Then the path is evicted." The card looks at itself and at the room first (13, 3, 11).
+// Stands on `settle`, `work`, `damage`, `mend` and what is below.
+ghost use mathlib.Core.Path.{_≡_};
+ghost use mathlib.Core.Bool.{cond};
+ghost use Prim.Native.Nat.{_-_};
 ghost use Rattle.gather.specs.Removal.{named};
 ghost use Rattle.path.specs.BucketList.{wordsMoved, pathList};
 ghost use Rattle.settle.specs.Left.{removal, removalDamaged};
 ghost use Rattle.settle.specs.Settled.{Prepares, Settles};
 ghost use Rattle.settle.specs.Room.{RemovalRoom, RemovalScratch};
-use crate::PATH_MOST;
-use crate::SIBLINGS_MOST;
-use crate::Settled;
-use crate::WAY_MOST;
-use crate::comes_out_bad;
-use crate::live_after;
-use crate::path_words;
-use crate::unsettled;
-use crate::way_words;
 use path::Sizes;
 use record::Leaf;
 use record::RECORD_WORDS;
 use record::Record;
 use record::Stamp;
+use settle::PATH_MOST;
+use settle::SIBLINGS_MOST;
+use settle::Settled;
+use settle::WAY_MOST;
+use settle::comes_out_bad;
+use settle::path_words;
+use settle::unsettled;
+use settle::way_words;
+
+// The live events after a removal. None is found where none is live, so c - 1 never wraps.
+fn live_after(c: u64, found: bool) -> u64
+    ensures { λ n. ⌜ n ≡ cond found (c - 1) c ⌝ }
+{
+    if !found {
+        return c;
+    }
+    if c == 0 {
+        return 0;
+    }
+    c - 1
+}
 
 // All is worked out: the path's buckets in `path`, nothing yet in the words. The words moved so far are the siblings'.
 fn prepare_removal(

@@ -4,9 +4,9 @@ use mathlib.Core.Path.{_≡_, sym, _∙_}
 use Prim.Native.Nat.{_-_}
 use lib.ListN.{length}
 use Rattle.gather.specs.Removal.{named}
-use Rattle.settle.proofs.RemovalLaws.{lent-room, verdict, fetched-bad, left-bad, left-good}
-use Rattle.settle.proofs.removal.prepare_removal.Statement.{statement}
-use Rattle.settle.proofs.removal.prepare_removal.Tie as tie
+use Rattle.removal.proofs.RemovalLaws.{lent-room, verdict, fetched-bad, left-bad, left-good}
+use Rattle.removal.proofs.prepare_removal.Statement.{statement}
+use Rattle.removal.proofs.prepare_removal.Tie as tie
 
 show-path-requires : tie.Need-show-path-requires
 show-path-requires c κs =

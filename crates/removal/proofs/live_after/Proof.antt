@@ -1,7 +1,7 @@
 use borrow.Author.Needs.{needs}
 use borrow.Author.Tests.{not-true, not-false}
-use Rattle.settle.proofs.live_after.Statement.{statement}
-use Rattle.settle.proofs.live_after.Tie as tie
+use Rattle.removal.proofs.live_after.Statement.{statement}
+use Rattle.removal.proofs.live_after.Tie as tie
 
 returns : tie.Need-returns
 returns c = rw (not-true (c .before .args .found) (c .if1 .taken))

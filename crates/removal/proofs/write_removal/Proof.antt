@@ -4,10 +4,10 @@ use Prim.Native.Nat.{_*_}
 use mathlib.Core.Path.{_≡_, _∙_}
 use lib.ListN.{length}
 use Rattle.path.specs.Layout.{bucketWords}
 use Rattle.settle.proofs.PreparedLaws.{not-settled, is-settled, counted-so-far}
-use Rattle.settle.proofs.RemovalLaws.{store-room, path-words, stores-few}
-use Rattle.settle.proofs.removal.write_removal.Statement.{statement}
-use Rattle.settle.proofs.removal.write_removal.Tie as tie
+use Rattle.removal.proofs.RemovalLaws.{store-room, path-words, stores-few}
+use Rattle.removal.proofs.write_removal.Statement.{statement}
+use Rattle.removal.proofs.write_removal.Tie as tie
 
 prepare-removal-requires : tie.Need-prepare-removal-requires
 prepare-removal-requires c κs = search needs

@@ -1,0 +1,2 @@
+-- The laws of ExtractMin's and Delete's finish.
+pub mod RemovalLaws
