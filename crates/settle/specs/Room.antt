@@ -34,3 +34,11 @@ pub record InsertionRoom (s : Sizes) (t c : ℕ) (first second : Leaf) (ws : Lis
   pub lower : first .0 < leavesOf (s .h)
   pub upper : second .0 < leavesOf (s .h)
   pub fetched : 4 * (2 * s .h * (s .z + 1) + 2 * (s .h - 1)) ≤ length ws
+
+pub record InsertionScratch (s : Sizes) (w one two all path₁ path₂ : List ℕ) : Type 0 where
+  pub slots : length w ≡ 4 * (s .r + s .z * s .h)
+  pub firsts : length one ≡ 4 * s .h
+  pub seconds : length two ≡ 4 * s .h
+  pub both : length all ≡ 4 * (s .r + s .z * (2 * s .h))
+  pub lowers : length path₁ ≡ s .h * bucketWords (s .z)
+  pub uppers : length path₂ ≡ s .h * bucketWords (s .z)

@@ -1,8 +1,10 @@
--- The work on a path looks at siblings at levels 1 to h alone. Assumes nothing.
-use Prim.Native.Nat.{ℕ, zero, suc, _-_, _≤_}
+-- The work on a path looks at siblings at levels 1 to h alone; its buckets, at levels 2 to h. Assumes nothing.
+use Prim.Native.Nat.{ℕ, zero, suc, _+_, _-_, _≤_, _<_}
 use mathlib.Core.List.{List, map}
-use mathlib.Core.Path.{_≡_, refl, ap, _∙_, fun-ext}
+use mathlib.Core.Path.{_≡_, refl, ap, _∙_}
 use native.Mathlib.Omega.{arith}
+use mathlib.Core.Bool.{cond}
+use lib.Dec.{eqb}
 use Rattle.record.specs.declared.Leaf.{Leaf}
 use Rattle.record.specs.declared.Record.{Record}
 use Rattle.record.specs.Order.{leastOf}
@@ -10,21 +12,33 @@ use Rattle.path.specs.declared.sizes.Sizes.{Sizes}
 use Rattle.path.specs.Path.{upFrom}
 use Rattle.path.specs.Layout.{Contents}
 use Rattle.way.specs.Least.{kids, mendedAt, mended}
-use Rattle.work.specs.Work.{slotsAfter, pathBuckets, leastAfter, PathWorked}
+use Rattle.mend.specs.Mended.{pathWords}
+use Rattle.work.specs.Work.{slotsAfter, pathBuckets, rootAfter, leastAfter, PathWorked, firstWay, secondWay, PairWorked}
 
-module _ (h : ℕ) (q : Leaf) (slots : ℕ → List Record) (b b′ : ℕ → Record) (same : (d : ℕ) → 1 ≤ d → d ≤ h → b d ≡ b′ d) where
-  pub kids-same : (j : ℕ) → j ≤ h → kids h q slots b j ≡ kids h q slots b′ j
+-- buckets that are the same at some levels
+map-same : (f g : ℕ → Contents) (a n : ℕ) → ((d : ℕ) → a ≤ d → d < a + n → f d ≡ g d) → map f (upFrom a n) ≡ map g (upFrom a n)
+unfolding upFrom
+map-same f g a zero same = refl
+map-same f g a (suc n) same =
+    rw (same a (omega arith) (omega arith), map-same f g (suc a) n (λ d l m. same d (omega arith) (omega arith)))
+
+module _ (h : ℕ) (q : Leaf) (slots : ℕ → List Record) (b b′ : ℕ → Record) (from : ℕ) (same : (d : ℕ) → from ≤ d → d ≤ h → b d ≡ b′ d) where
+  pub kids-same : (j : ℕ) → j + from ≤ suc h → kids h q slots b j ≡ kids h q slots b′ j
   unfolding kids
   kids-same zero l = refl
   kids-same (suc j) l = rw (kids-same j (omega arith), same (h - j) (omega arith) (omega arith))
 
-  at-same : (d : ℕ) → mendedAt h q slots b d ≡ mendedAt h q slots b′ d
-  at-same d =
-      let e = ap (leastOf (slots d)) (kids-same (h - d) (omega arith)) in
-      λ i. record { least = e i; slots = slots d }
+  module _ (below : from ≤ 2) where
+    at-same : (d : ℕ) → 1 ≤ d → d ≤ h → mendedAt h q slots b d ≡ mendedAt h q slots b′ d
+    at-same d l m =
+        let e = ap (leastOf (slots d)) (kids-same (h - d) (omega arith)) in
+        λ i. record { least = e i; slots = slots d }
 
-  pub mended-same : mended h q slots b ≡ mended h q slots b′
-  mended-same = ap (λ (f : ℕ → Contents). map f (upFrom 1 h)) (fun-ext at-same)
+    pub top-same : 1 ≤ h → mendedAt h q slots b 1 .least ≡ mendedAt h q slots b′ 1 .least
+    top-same l = ap (λ (k : Contents). k .least) (at-same 1 (omega arith) l)
+
+    pub mended-same : mended h q slots b ≡ mended h q slots b′
+    mended-same = map-same _ _ 1 h (λ d l m. at-same d l (omega arith))
 
 -- so does what it leaves
 pub worked-same :
@@ -34,6 +48,24 @@ unfolding pathBuckets leastAfter
 worked-same s q b b′ way w path x same p =
     record {
       after = p .after;
-      buckets = p .buckets ∙ rw (mended-same (s .h) q (slotsAfter s q b way) b b′ same);
-      least = p .least ∙ rw (kids-same (s .h) q (slotsAfter s q b way) b b′ same (s .h) (omega arith));
+      buckets = p .buckets ∙ rw (mended-same (s .h) q (slotsAfter s q b way) b b′ 1 same (omega arith));
+      least = p .least ∙ rw (kids-same (s .h) q (slotsAfter s q b way) b b′ 1 same (s .h) (omega arith));
+    }
+
+-- An Insert's first path: its sibling at level 1 is the second path, and is not looked at.
+pub pair-same :
+    (s : Sizes) (first second : Leaf) (new : Record) (b b′ beside₂ : ℕ → Record) (way slots₂ : List Record) (w path₁ path₂ : List ℕ) (x : Record)
+    → 1 ≤ s .h → ((d : ℕ) → 2 ≤ d → d ≤ s .h → b d ≡ b′ d)
+    → PairWorked s first second new b beside₂ way slots₂ w path₁ path₂ x
+    → PairWorked s first second new b′ beside₂ way slots₂ w path₁ path₂ x
+unfolding pathBuckets rootAfter leastAfter
+pair-same s first second new b b′ beside₂ way slots₂ w path₁ path₂ x high same p =
+    let slots = slotsAfter s first b (firstWay s first second new b beside₂ way slots₂) in
+    let way₂ = secondWay s first second new b beside₂ way slots₂ in
+    let top = top-same (s .h) first slots b b′ 2 same (omega arith) high in
+    record {
+      after = p .after;
+      firstWords = p .firstWords ∙ ap pathWords (mended-same (s .h) first slots b b′ 2 same (omega arith));
+      secondWords = p .secondWords ∙ ap (λ (t : Record). pathWords (pathBuckets s second (λ d. cond (eqb d 1) t (beside₂ d)) way₂)) top;
+      least = p .least ∙ ap (λ (t : Record). leastAfter s second (λ d. cond (eqb d 1) t (beside₂ d)) way₂) top;
     }

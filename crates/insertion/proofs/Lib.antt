@@ -1,0 +1,2 @@
+-- The laws of Insert's finish.
+pub mod InsertionLaws
