@@ -14,7 +14,7 @@ use Rattle.record.specs.declared.Leaf.{Leaf}
 use Rattle.record.specs.declared.Stamp.{Stamp}
 use Rattle.record.specs.Standing.{dummyKey, known, isDummy, isProper, mayStand}
 use Rattle.path.specs.declared.list.Listed.{Listed as Counts}
-use Rattle.path.specs.BucketList.{numbers, pairList, pathList, Names}
+use Rattle.path.specs.BucketList.{numbers, counts, pairList, pathList, Names}
 use Rattle.path.proofs.SizesLaws.{in-range}
 use Rattle.path.proofs.ListLaws.{length-numbers, pair-counts, path-counts}
 use Rattle.refusal.specs.Refusal.{firstGiven}
@@ -28,7 +28,7 @@ use Rattle.card.specs.Tables.{leavesIn, nextStamp, badLabel, insertRows,
 use Rattle.card.specs.BadCard.{badCard}
 use Rattle.judge.specs.BadParts.{oddLeast}
 use Rattle.card.specs.Answers.{refused}
-use Rattle.card.specs.Calls.{listOf, roomFor, beginTable, withWaiting, begun, Begins}
+use Rattle.card.specs.Calls.{listOf, countsFor, beginTable, withWaiting, begun, Begins}
 use Rattle.card.proofs.AnswerLaws.{is-refused, is-done}
 use Rattle.card.proofs.GoodLaws.{Good, good}
 use Rattle.judge.proofs.FitLaws.{neither}
@@ -42,19 +42,25 @@ request-numbered k (Insert key value label first second) =
 request-numbered k Extract = next 4 (omega arith) (next 8 (omega arith) none)
 request-numbered k (Delete label stamp) = next 4 (omega arith) (next 6 (omega arith) (next 7 (omega arith) none))
 
--- the room that the height tells is what the list takes
-pub room-for : (k : Card) (w : Waiting) → 1 ≤ k .sizes .h → length (numbers (listOf k w)) ≡ roomFor (k .sizes .h) w
-unfolding listOf roomFor
-room-for k Nothing h = refl
-room-for k (Insert key value label first second) h =
-    length-numbers (pairList (k .sizes .h) first second)
-    ∙ ap (λ (n : Counts). n .whole + n .least) (pair-counts (k .sizes .h) first second h)
-room-for k Extract h =
-    length-numbers (pathList (k .sizes .h) (k .least .label))
-    ∙ ap (λ (n : Counts). n .whole + n .least) (path-counts (k .sizes .h) (k .least .label))
-room-for k (Delete label stamp) h =
-    length-numbers (pathList (k .sizes .h) label)
-    ∙ ap (λ (n : Counts). n .whole + n .least) (path-counts (k .sizes .h) label)
+-- the counts that the height tells are those of the list
+pub counts-for : (k : Card) (w : Waiting) → 1 ≤ k .sizes .h → counts (listOf k w) ≡ countsFor (k .sizes .h) w
+unfolding listOf countsFor
+counts-for k Nothing h = refl
+counts-for k (Insert key value label first second) h = pair-counts (k .sizes .h) first second h
+counts-for k Extract h = path-counts (k .sizes .h) (k .least .label)
+counts-for k (Delete label stamp) h = path-counts (k .sizes .h) label
+
+pub counts-few : (h : ℕ) (w : Waiting) → h ≤ 16 → (countsFor h w .whole ≤ 32) × (countsFor h w .least ≤ 32)
+unfolding countsFor
+counts-few h Nothing l = (omega arith, omega arith)
+counts-few h (Insert key value label first second) l = (omega arith, omega arith)
+counts-few h Extract l = (omega arith, omega arith)
+counts-few h (Delete label stamp) l = (omega arith, omega arith)
+
+-- so the room is
+pub room-for : (k : Card) (w : Waiting) → 1 ≤ k .sizes .h
+    → length (numbers (listOf k w)) ≡ countsFor (k .sizes .h) w .whole + countsFor (k .sizes .h) w .least
+room-for k w h = length-numbers (listOf k w) ∙ ap (λ (n : Counts). n .whole + n .least) (counts-for k w h)
 
 -- a begin on a good card on which none waits: the request's own refusal, or no room, or none
 module _ (k : Card) (w : Waiting) (room : ℕ) (fine : badCard k ≡ false) (idle : waits (k .waiting) ≡ false) where
@@ -73,10 +79,10 @@ module _ (k : Card) (w : Waiting) (room : ℕ) (fine : badCard k ≡ false) (idl
     height : 1 ≤ k .sizes .h
     height = in-range (k .sizes) (good k fine .sizes) .tree .height .0
 
-    pub room-short : room < roomFor (k .sizes .h) w → firstGiven (beginTable k w room) ≡ 11
+    pub room-short : room < countsFor (k .sizes .h) w .whole + countsFor (k .sizes .h) w .least → firstGiven (beginTable k w room) ≡ 11
     room-short h = rest-decides ∙ rw (unrefused, room-for k w height, lt-ltb _ _ h)
 
-    pub room-enough : roomFor (k .sizes .h) w ≤ room → firstGiven (beginTable k w room) ≡ 0
+    pub room-enough : countsFor (k .sizes .h) w .whole + countsFor (k .sizes .h) w .least ≤ room → firstGiven (beginTable k w room) ≡ 0
     room-enough h = rest-decides ∙ rw (unrefused, room-for k w height, le-ltb _ _ h)
 
 -- a begin that is not refused

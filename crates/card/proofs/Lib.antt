@@ -3,3 +3,5 @@ pub mod GoodLaws
 pub mod AnswerLaws
 pub mod BeginLaws
 pub mod CallLaws
+pub mod FinishLaws
+pub mod FinishedLaws

@@ -7,7 +7,7 @@ use lib.Dec.{eqb}
 use lib.ListN.{replicate}
 use Rattle.card.specs.declared.Card.{Card}
 use Rattle.card.specs.declared.Answer.{Answer}
-use Rattle.card.specs.declared.Answer.the-variants.{Started, Listed, Least, Withdrawn, Refused}
+use Rattle.card.specs.declared.Answer.the-variants.{Started, Listed, Least, Withdrawn, Inserted, Extracted, Deleted, Refused}
 use Rattle.card.specs.declared.Done.{Done}
 
 -- the paper's number of each case: 0, or the refusal's
@@ -16,10 +16,13 @@ numberOf Started = 0
 numberOf (Listed whole least) = 0
 numberOf (Least r) = 0
 numberOf Withdrawn = 0
+numberOf (Inserted label stamp words) = 0
+numberOf (Extracted event words) = 0
+numberOf (Deleted found words) = 0
 numberOf (Refused number) = number
 
 -- and its six values; one that does not apply is 0. A begin answers how many buckets are whole and how many least-record
--- only; FindMin key, value, label, stamp, found and the words moved.
+-- only; FindMin and finish key, value, label, stamp, found and the words moved. Found is Delete's alone, 1 or 0.
 abbrev pub noValues : List ℕ
 noValues = replicate 6 0
 
@@ -28,6 +31,9 @@ valuesOf Started = noValues
 valuesOf (Listed whole least) = whole ∷ least ∷ 0 ∷ 0 ∷ 0 ∷ 0 ∷ []
 valuesOf (Least r) = r .key ∷ r .value ∷ r .label .0 ∷ r .stamp .0 ∷ 0 ∷ 0 ∷ []
 valuesOf Withdrawn = noValues
+valuesOf (Inserted label stamp words) = 0 ∷ 0 ∷ label .0 ∷ stamp .0 ∷ 0 ∷ words ∷ []
+valuesOf (Extracted r words) = r .key ∷ r .value ∷ r .label .0 ∷ r .stamp .0 ∷ 0 ∷ words ∷ []
+valuesOf (Deleted found words) = 0 ∷ 0 ∷ 0 ∷ 0 ∷ cond found 1 0 ∷ words ∷ []
 valuesOf (Refused number) = noValues
 
 -- a refused call hands back the card as it came, and its number alone

@@ -1,5 +1,5 @@
 -- What each call answers: document 01, "A request, step by step". Assumes nothing.
-use Prim.Native.Nat.{ℕ, _+_}
+use Prim.Native.Nat.{ℕ}
 use mathlib.Core.Bool.{cond, not}
 use mathlib.Core.List.{List, [], _∷_, _++_}
 use mathlib.Core.Path.{_≡_}
@@ -9,6 +9,7 @@ use Rattle.record.specs.declared.Record.{Record}
 use Rattle.record.specs.Standing.{dummy}
 use Rattle.record.specs.Words.{record4}
 use Rattle.path.specs.declared.sizes.Sizes.{Sizes}
+use Rattle.path.specs.declared.list.Listed.{Listed as Counts}
 use Rattle.path.specs.Sizes.{inRange}
 use Rattle.path.specs.BucketList.{BucketList, pairList, pathList, numbers, laid, pairCounts, pathCounts}
 use Rattle.refusal.specs.Refusal.{Refusal, row, firstGiven}
@@ -60,12 +61,12 @@ listOf k (Insert key value label first second) = pairList (k .sizes .h) first se
 listOf k Extract = pathList (k .sizes .h) (k .least .label)
 listOf k (Delete label stamp) = pathList (k .sizes .h) label
 
--- how many numbers such a list has, by the height alone
-unfoldable pub roomFor : ℕ → Waiting → ℕ
-roomFor h Nothing = 0
-roomFor h (Insert key value label first second) = pairCounts h .whole + pairCounts h .least
-roomFor h Extract = pathCounts h .whole + pathCounts h .least
-roomFor h (Delete label stamp) = pathCounts h .whole + pathCounts h .least
+-- how many numbers such a list has, whole and least-record only, by the height alone
+unfoldable pub countsFor : ℕ → Waiting → Counts
+countsFor h Nothing = record { whole = 0; least = 0 }
+countsFor h (Insert key value label first second) = pairCounts h
+countsFor h Extract = pathCounts h
+countsFor h (Delete label stamp) = pathCounts h
 
 -- "13, 2 or 3, 4, 5, 6, 7, 8, 9, 10, 11": a request that is begun with room for so many numbers
 unfoldable pub beginTable : Card → Waiting → ℕ → List Refusal

@@ -3,3 +3,4 @@ pub mod BadCard
 pub mod Tables
 pub mod Answers
 pub mod Calls
+pub mod Finish

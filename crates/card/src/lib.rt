@@ -2,8 +2,9 @@
 // slots, the root's least record and the waiting request, if any."
 //
 // A card is a value that goes in with a call and comes out of it. Every call answers, whatever numbers the card holds.
-// Stands on `record`, `path`, `refusal`, `root`, `judge`.
+// Stands on `record`, `path`, `refusal`, `root`, `judge`, `removal`, `insertion`.
 mod calls;
+mod finish;
 mod request;
 mod why;
 
@@ -39,9 +40,25 @@ pub struct Card {
 
 pub enum Answer {
     Started,
-    Listed { whole: usize, least: usize },
+    Listed {
+        whole: usize,
+        least: usize,
+    },
     Least(Record),
     Withdrawn,
+    Inserted {
+        label: Leaf,
+        stamp: Stamp,
+        words: u64,
+    },
+    Extracted {
+        event: Record,
+        words: u64,
+    },
+    Deleted {
+        found: bool,
+        words: u64,
+    },
     Refused(u64),
 }
 

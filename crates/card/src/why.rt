@@ -4,15 +4,19 @@ ghost use mathlib.Core.Path.{_≡_};
 ghost use Prim.Native.Nat.{_≤_};
 ghost use lib.ListN.{length};
 ghost use Rattle.record.specs.Words.{records};
+ghost use Rattle.path.specs.BucketList.{fetchedFor};
 ghost use Rattle.refusal.specs.Refusal.{firstGiven};
 ghost use Rattle.card.specs.BadCard.{badCard};
-ghost use Rattle.card.specs.Calls.{roomFor, beginTable, minTable, withdrawTable};
+ghost use Rattle.card.specs.Calls.{countsFor, beginTable, minTable, withdrawTable};
+ghost use Rattle.card.specs.Finish.{entryTable};
 use crate::Card;
 use crate::Waiting;
 use crate::request::is_waiting;
 use crate::request::why_request;
 use judge::ROOT_PLACES;
+use path::Listed;
 use path::Sizes;
+use record::RECORD_WORDS;
 use refusal::BAD_CARD;
 use refusal::BUSY;
 use refusal::EMPTY;
@@ -20,30 +24,21 @@ use refusal::IDLE;
 use refusal::SHORT_ROOM;
 
 // How many numbers the list of a request has.
-fn room_for(sizes: Sizes, request: Waiting) -> usize
+fn counts_for(sizes: Sizes, request: Waiting) -> Listed
     requires { ⌜ (1 ≤ sizes .h) × (sizes .h ≤ 16) ⌝ }
-    ensures { λ r. ⌜ r ≡ roomFor (sizes .h) request ⌝ }
+    ensures { λ r. ⌜ r ≡ countsFor (sizes .h) request ⌝ }
 {
     match request {
-        Waiting::Nothing => 0,
+        Waiting::Nothing => Listed { whole: 0, least: 0 },
         Waiting::Insert {
             key: _,
             value: _,
             label: _,
             first: _,
             second: _,
-        } => {
-            let counts = sizes.pair_counts();
-            counts.whole + counts.least
-        }
-        Waiting::Extract => {
-            let counts = sizes.path_counts();
-            counts.whole + counts.least
-        }
-        Waiting::Delete { label: _, stamp: _ } => {
-            let counts = sizes.path_counts();
-            counts.whole + counts.least
-        }
+        } => sizes.pair_counts(),
+        Waiting::Extract => sizes.path_counts(),
+        Waiting::Delete { label: _, stamp: _ } => sizes.path_counts(),
     }
 }
 
@@ -107,7 +102,35 @@ pub(crate) fn why_begin(card: Card, request: Waiting, room: usize) -> u64
     if why != 0 {
         return why;
     }
-    if room < room_for(card.sizes, request) {
+    let counts = counts_for(card.sizes, request);
+    if room < counts.whole + counts.least {
+        return SHORT_ROOM;
+    }
+    0
+}
+
+// The words that are fetched for a list of so many numbers.
+fn fetched_for(counts: Listed, z: usize) -> usize
+    requires { ⌜ (z ≤ 5) × ((counts .whole ≤ 32) × (counts .least ≤ 32)) ⌝ }
+    ensures { λ n. ⌜ n ≡ fetchedFor z counts ⌝ }
+{
+    counts.whole * (RECORD_WORDS * (z + 1)) + counts.least * RECORD_WORDS
+}
+
+// Why a finish is refused before what was fetched is looked at.
+pub(crate) fn why_finish(card: Card, room: usize) -> u64
+    ensures { λ n. ⌜ n ≡ firstGiven (entryTable card room) ⌝ }
+{
+    let mut places = [0u64; 256];
+    if is_bad_card(card, &mut places) {
+        return BAD_CARD;
+    }
+    let waiting = card.waiting;
+    if !is_waiting(waiting) {
+        return IDLE;
+    }
+    let counts = counts_for(card.sizes, waiting);
+    if room < fetched_for(counts, card.sizes.z as usize) {
         return SHORT_ROOM;
     }
     0

@@ -6,7 +6,8 @@ use Prim.Native.Nat.{ℕ, zero, suc, _+_, _*_, _-_, _%_, _≤_}
 use mathlib.Core.Bool.{Bool, true, false, cond, and-eq-true-iff, true≢false}
 use mathlib.Core.List.{List, [], _∷_, _++_, List·Memᴰ, List·Memᴰ·not-nil, List·Memᴰ·cases-cons, List·Memᴰ·append-cases, List·Memᴰ·eq-of-singleton, Memᴰ·cast, Memᴰ·append-left, Memᴰ·append-right}
 use mathlib.Core.Logic.{_⊎_, inl, inr, ⊎-elim}
-use mathlib.Core.Path.{_≡_, refl, ap, _∙_}
+use mathlib.Core.Path.{_≡_, refl, sym, ap, _∙_}
+use mathlib.Mathlib.Data.Bool.Basic.{dichotomy}
 use native.Mathlib.Omega.{arith}
 use lib.Dec.{eqb}
 use lib.ListN.{length, getD, take, drop, take-append-drop}
@@ -14,9 +15,9 @@ use borrow.Author.Tests.{not-true, ltb-true, lt-ltb, le-ltb, eqb-true, eq-eqb}
 use Rattle.record.specs.declared.Bucket.{Bucket}
 use Rattle.record.specs.declared.Stamp.{Stamp}
 use Rattle.record.specs.declared.Record.{Record}
-use Rattle.record.specs.Standing.{dummy, isDummy, isProper}
+use Rattle.record.specs.Standing.{dummy, same, isDummy, isProper}
 use Rattle.record.specs.Order.{noLater, leastOf}
-use Rattle.record.proofs.StandingLaws.{is-dummy, proper-true, proper-not-dummy}
+use Rattle.record.proofs.StandingLaws.{same-true, true-same, is-dummy, proper-true, proper-not-dummy}
 use Rattle.record.proofs.OrderLaws.{smallest-in}
 use Rattle.path.specs.Sizes.{leavesOf}
 use Rattle.path.specs.Path.{number, pathBucket, siblingOf}
@@ -129,6 +130,24 @@ module _ (h r : ℕ) (next : Stamp) (m : Record) (shown : ℕ → Contents) (bes
       let once = undamaged h r next m _ way good .stamps in
       stamp-once once there on-way (not-true (isDummy x) real) (proper-not-dummy (leavesOf h) next m proper) (eqb-true _ _ s)
 
+  -- so on its way the root's least record is known by its label and stamp
+  by-name : (x : Record) → List·Memᴰ x way → named (m .label) (m .stamp) x ≡ true → same m x ≡ true
+  unfolding named
+  by-name x i t =
+      let (real, (l, s)) = simp and-eq-true-iff at t in
+      let once = undamaged h r next m _ way good .stamps in
+      let e = stamp-once once i on-way (not-true (isDummy x) real) (proper-not-dummy (leavesOf h) next m proper) (eqb-true _ _ s) in
+      true-same (sym e)
+
+  pub extract-by-name : (x : Record) → List·Memᴰ x way → named (m .label) (m .stamp) x ≡ same m x
+  extract-by-name x i = elim (dichotomy (same m x)) [
+    | inr t ↦ rw (t, ← same-true m x t) (own-name h r next m proper)
+    | inl f ↦ elim (dichotomy (named (m .label) (m .stamp) x)) [
+      | inl g ↦ g ∙ sym f
+      | inr t ↦ absurd (true≢false (sym (by-name x i t) ∙ f))
+    ]
+  ]
+
 -- The same of what card and fetched words show.
 module _ (h z r : ℕ) (root : List Record) (ws : List ℕ) (full : r ≤ length root) (given : 4 * (h * (z + 1)) ≤ length ws) where
   abbrev way : List Record
@@ -148,3 +167,6 @@ module _ (h z r : ℕ) (root : List Record) (ws : List ℕ) (full : r ≤ length
     pub shown-extract-is-least : (d : Record)
         → getD (wayShown h z r root ws 0) (seek (named (m .label) (m .stamp)) (length (wayShown h z r root ws 0)) (wayShown h z r root ws 0)) d ≡ m
     shown-extract-is-least d = extract-is-least h r next m _ _ way high proper shown-in good d
+
+    pub shown-extract-by-name : (x : Record) → List·Memᴰ x (wayShown h z r root ws 0) → named (m .label) (m .stamp) x ≡ same m x
+    shown-extract-by-name = extract-by-name h r next m _ _ way high proper shown-in good

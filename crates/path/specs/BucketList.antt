@@ -62,3 +62,7 @@ wordsMoved z l = sum (map (λ b. 2 * bucketWords z) (l .whole)) + sum (map (λ b
 -- the same by the counts alone
 abbrev pub moved : ℕ → Listed → ℕ
 moved z n = n .whole * (2 * bucketWords z) + n .least * recordWords
+
+-- the words that are fetched for it: 4(Z+1) for each whole bucket, 4 for each least record
+abbrev pub fetchedFor : ℕ → Listed → ℕ
+fetchedFor z n = n .whole * bucketWords z + n .least * recordWords

@@ -5,7 +5,8 @@ use mathlib.Core.List.{List, [], _∷_}
 use lib.Dec.{ltb, eqb}
 use lib.ListN.{length, take}
 use Rattle.path.specs.Sizes.{between, leavesOf, treeIn}
-use Rattle.path.specs.Layout.{recordWords, bucketWords, treeWords}
+use Rattle.path.specs.Layout.{treeWords}
+use Rattle.path.specs.BucketList.{fetchedFor}
 use Rattle.rack.specs.declared.Answer.{Answer}
 use Rattle.rack.specs.declared.Answer.the-variants.{Done, BadSize, ShortRoom, BadBucket}
 use Rattle.refusal.specs.Refusal.{Refusal, row, firstGiven}
@@ -32,9 +33,9 @@ otherTree h z tree = not (eqb tree (treeWords h z))
 abbrev pub overCounted : List ℕ → ℕ → ℕ → Bool
 overCounted list whole least = ltb (length list) (whole + least)
 
--- "Fetch and store both .. need words for all of them": 4(Z+1) for a whole bucket, 4 for a least record
+-- "Fetch and store both .. need words for all of them"
 abbrev pub wordsFor : ℕ → ℕ → ℕ → ℕ
-wordsFor z whole least = whole * bucketWords z + least * recordWords
+wordsFor z whole least = fetchedFor z (record { whole = whole; least = least })
 
 abbrev pub fewWords : ℕ → ℕ → ℕ → ℕ → Bool
 fewWords z whole least words = ltb words (wordsFor z whole least)

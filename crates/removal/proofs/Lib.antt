@@ -1,2 +1,3 @@
 -- The laws of ExtractMin's and Delete's finish.
 pub mod RemovalLaws
+pub mod ExtractLaws

@@ -3,12 +3,14 @@ use Prim.Native.Nat.{ℕ, _+_, _*_}
 use mathlib.Core.Bool.{Bool, true, false, true≢false}
 use mathlib.Core.List.{List, _++_}
 use mathlib.Core.Path.{_≡_, refl, sym, ap, _∙_}
+use mathlib.Core.Logic.{inl, inr}
+use mathlib.Mathlib.Data.Bool.Basic.{dichotomy}
 use lib.ListN.{length, drop}
 use Rattle.record.specs.declared.Record.{Record}
 use Rattle.path.specs.Layout.{recordWords}
 use Rattle.mend.specs.Mended.{pathWords}
 use Rattle.settle.specs.declared.Settled.{Settled}
-use Rattle.settle.specs.Left.{Left}
+use Rattle.settle.specs.Left.{Left, wordsLeft}
 use Rattle.settle.specs.Settled.{settled, unsettled, Prepares, Settles}
 
 module _ (root : List Record) (least : Record) (c : ℕ) (damaged : Bool) (l : Left) (siblings : ℕ) (path : List ℕ) (out : Settled) where
@@ -49,3 +51,28 @@ module _ (root : List Record) (least : Record) (c : ℕ) (damaged : Bool) (l : L
           let d = sym is-damaged ∙ ready in
           let w : out ≡ settled l (siblings * recordWords) = rw d at (p .whole) in
           record { whole = rw (d, w, ← count); words = rw (d, ← buckets-ready) e }
+
+-- what is left is told apart only where it is not Damaged
+pub settles-same :
+    (root : List Record) (least : Record) (c : ℕ) (d d′ : Bool) (l l′ : Left) (moved : ℕ) (before after : List ℕ) (out : Settled)
+    → d ≡ d′ → (d′ ≡ false → l ≡ l′) → Settles root least c d l moved before after out → Settles root least c d′ l′ moved before after out
+settles-same root least c d d′ l l′ moved before after out e f p = elim (dichotomy d′) [
+  | inl g ↦ rw (← f g, ← e) p
+  | inr t ↦ record { whole = rw t (rw (e ∙ t) at (p .whole)); words = rw t (rw (e ∙ t) at (p .words)) }
+]
+
+-- a finish told by what it hands back
+module _ (root : List Record) (least : Record) (c : ℕ) (d : Bool) (l : Left) (moved : ℕ) (before after : List ℕ) (out : Settled)
+    (p : Settles root least c d l moved before after out) where
+  handed : (x : Bool) → d ≡ x → out .damaged ≡ x
+  handed true e = ap (λ (o : Settled). o .damaged) (rw e at (p .whole))
+  handed false e = ap (λ (o : Settled). o .damaged) (rw e at (p .whole))
+
+  verdict : out .damaged ≡ d
+  verdict = handed d refl
+
+  pub settles-damaged : out .damaged ≡ true → (d ≡ true) × (after ≡ before)
+  settles-damaged e = let t = sym verdict ∙ e in (t, rw t at (p .words))
+
+  pub settles-done : out .damaged ≡ false → (d ≡ false) × ((out ≡ settled l moved) × (after ≡ wordsLeft l before))
+  settles-done e = let f = sym verdict ∙ e in (f, (rw f at (p .whole), rw f at (p .words)))

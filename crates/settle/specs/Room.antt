@@ -17,7 +17,7 @@ pub record Cut (s : Sizes) : Type 0 where
 
 pub record Parts (s : Sizes) (t c : ℕ) : Type 0 where
   pub sizes : Cut s
-  pub counts : (t ≤ 4294967295) × (c ≤ 65536)
+  pub counts : (t ≤ 4294967295) × (c ≤ 4294967295)
 
 pub record RemovalRoom (s : Sizes) (t c : ℕ) (q : Leaf) (ws : List ℕ) : Type 0 where
   pub parts : Parts s t c

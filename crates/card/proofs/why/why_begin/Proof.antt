@@ -1,14 +1,16 @@
 use borrow.Author.Needs.{needs}
 use native.Mathlib.Omega.{arith}
+use Prim.Native.Nat.{_≤_, _<_, _+_}
 use mathlib.Core.List.{List}
 use mathlib.Core.Path.{_≡_, sym, ap, _∙_}
 use Rattle.record.specs.declared.Record.{Record}
+use Rattle.path.specs.declared.list.Listed.{Listed}
 use Rattle.path.proofs.SizesLaws.{in-range}
 use Rattle.refusal.specs.Refusal.{firstGiven}
 use Rattle.card.specs.Tables.{requestRows, requestTable}
 use Rattle.card.specs.Calls.{beginTable}
 use Rattle.card.proofs.GoodLaws.{good}
-use Rattle.card.proofs.BeginLaws.{request-refused, room-short, room-enough}
+use Rattle.card.proofs.BeginLaws.{request-refused, room-short, room-enough, counts-few}
 use Rattle.card.proofs.why.why_begin.Statement.{statement}
 use Rattle.card.proofs.why.why_begin.Tie as tie
 
@@ -46,25 +48,34 @@ returns-3 c =
     let why : c .before .why-request .result ≡ firstGiven (requestTable k w) = c .before .why-request .ensures ∙ ap (λ (l : List Record). firstGiven (requestRows (k .sizes) (k .t) (k .c) l w)) (c .before .before .before .before .before .before .before .is-bad-card .ensures .1) in
     why ∙ sym (request-refused k w (c .before .before .before .before .before .before .before .before .before .args .room) (sym (c .before .before .before .before .before .before .before .is-bad-card .ensures .0) ∙ c .before .before .before .before .before .if1 .left) (sym (c .before .before .before .before .is-waiting .ensures) ∙ c .before .before .before .if2 .left) (λ e. c .if3 .taken (why ∙ e)))
 
-room-for-requires : tie.Need-room-for-requires
-room-for-requires c κs =
+counts-for-requires : tie.Need-counts-for-requires
+counts-for-requires c κs =
     let k = c .before .before .before .before .before .before .before .before .before .args .card in
     let i = in-range (k .sizes) (good k (sym (c .before .before .before .before .before .before .before .is-bad-card .ensures .0) ∙ c .before .before .before .before .before .if1 .left) .sizes) in
     omega (arith, i .tree .height)
 
+add-if4 : tie.Need-add-if4
+add-if4 c =
+    let k = c .before .before .before .before .before .before .before .before .before .before .before .args .card in
+    let i = in-range (k .sizes) (good k (sym (c .before .before .before .before .before .before .before .before .before .is-bad-card .ensures .0) ∙ c .before .before .before .before .before .before .before .if1 .left) .sizes) in
+    let few = counts-few (k .sizes .h) (c .before .before .before .before .before .before .before .before .before .before .before .args .request) (i .tree .height .1) in
+    omega (arith, few, ap (λ (n : Listed). n .whole) (c .before .counts-for .ensures), ap (λ (n : Listed). n .least) (c .before .counts-for .ensures))
+
 returns-4 : tie.Need-returns-4
 returns-4 c =
-    let k = c .before .before .before .before .before .before .before .before .before .before .before .args .card in
-    let w = c .before .before .before .before .before .before .before .before .before .before .before .args .request in
-    let why : firstGiven (requestTable k w) ≡ 0 = sym (c .before .before .before .why-request .ensures ∙ ap (λ (l : List Record). firstGiven (requestRows (k .sizes) (k .t) (k .c) l w)) (c .before .before .before .before .before .before .before .before .before .is-bad-card .ensures .1)) ∙ c .before .before .if3 .left in
-    sym (room-short k w (c .before .before .before .before .before .before .before .before .before .before .before .args .room) (sym (c .before .before .before .before .before .before .before .before .before .is-bad-card .ensures .0) ∙ c .before .before .before .before .before .before .before .if1 .left) (sym (c .before .before .before .before .before .before .is-waiting .ensures) ∙ c .before .before .before .before .before .if2 .left) why (rw (c .before .room-for .ensures) at (c .if4 .taken)))
+    let k = c .before .before .before .before .before .before .before .before .before .before .before .before .args .card in
+    let w = c .before .before .before .before .before .before .before .before .before .before .before .before .args .request in
+    let why : firstGiven (requestTable k w) ≡ 0 = sym (c .before .before .before .before .why-request .ensures ∙ ap (λ (l : List Record). firstGiven (requestRows (k .sizes) (k .t) (k .c) l w)) (c .before .before .before .before .before .before .before .before .before .before .is-bad-card .ensures .1)) ∙ c .before .before .before .if3 .left in
+    let n = ap (λ (n : Listed). n .whole + n .least) (c .before .before .counts-for .ensures) in
+    sym (room-short k w (c .before .before .before .before .before .before .before .before .before .before .before .before .args .room) (sym (c .before .before .before .before .before .before .before .before .before .before .is-bad-card .ensures .0) ∙ c .before .before .before .before .before .before .before .before .if1 .left) (sym (c .before .before .before .before .before .before .before .is-waiting .ensures) ∙ c .before .before .before .before .before .before .if2 .left) why (rw n at (c .if4 .taken)))
 
 returns-5 : tie.Need-returns-5
 returns-5 c =
-    let k = c .before .before .before .before .before .before .before .before .before .before .before .args .card in
-    let w = c .before .before .before .before .before .before .before .before .before .before .before .args .request in
-    let why : firstGiven (requestTable k w) ≡ 0 = sym (c .before .before .before .why-request .ensures ∙ ap (λ (l : List Record). firstGiven (requestRows (k .sizes) (k .t) (k .c) l w)) (c .before .before .before .before .before .before .before .before .before .is-bad-card .ensures .1)) ∙ c .before .before .if3 .left in
-    sym (room-enough k w (c .before .before .before .before .before .before .before .before .before .before .before .args .room) (sym (c .before .before .before .before .before .before .before .before .before .is-bad-card .ensures .0) ∙ c .before .before .before .before .before .before .before .if1 .left) (sym (c .before .before .before .before .before .before .is-waiting .ensures) ∙ c .before .before .before .before .before .if2 .left) why (rw (c .before .room-for .ensures) at (c .if4 .left)))
+    let k = c .before .before .before .before .before .before .before .before .before .before .before .before .args .card in
+    let w = c .before .before .before .before .before .before .before .before .before .before .before .before .args .request in
+    let why : firstGiven (requestTable k w) ≡ 0 = sym (c .before .before .before .before .why-request .ensures ∙ ap (λ (l : List Record). firstGiven (requestRows (k .sizes) (k .t) (k .c) l w)) (c .before .before .before .before .before .before .before .before .before .before .is-bad-card .ensures .1)) ∙ c .before .before .before .if3 .left in
+    let n = ap (λ (n : Listed). n .whole + n .least) (c .before .before .counts-for .ensures) in
+    sym (room-enough k w (c .before .before .before .before .before .before .before .before .before .before .before .before .args .room) (sym (c .before .before .before .before .before .before .before .before .before .before .is-bad-card .ensures .0) ∙ c .before .before .before .before .before .before .before .before .if1 .left) (sym (c .before .before .before .before .before .before .before .is-waiting .ensures) ∙ c .before .before .before .before .before .before .if2 .left) why (rw n at (c .if4 .left)))
 
 pub why-begin-spec : {M : Type 1} → statement M
 why-begin-spec =
@@ -78,6 +89,7 @@ why-begin-spec =
     slice-aggregate-why-request
     why-request-requires
     returns-3
-    room-for-requires
+    counts-for-requires
+    add-if4
     returns-4
     returns-5)

@@ -1,0 +1,133 @@
+-- What a finish that is not refused at once tells: a good card, a request that waits, words enough. Assumes nothing.
+use Prim.Native.Nat.{ℕ, _≤_, _<_}
+use mathlib.Core.Bool.{true, false, true≢false}
+use mathlib.Core.List.{List}
+use mathlib.Core.Path.{_≡_, sym, ap, subst, _∙_}
+use native.Mathlib.Omega.{arith}
+use lib.ListN.{length}
+use borrow.Author.Tests.{lt-ltb, le-ltb, ltb-false, not-false}
+use Rattle.record.specs.declared.Leaf.{Leaf}
+use Rattle.record.specs.declared.Stamp.{Stamp}
+use Rattle.record.specs.Standing.{isProper}
+use Rattle.record.proofs.StandingLaws.{proper-true}
+use Rattle.path.specs.BucketList.{counts, fetchedFor}
+use Rattle.path.specs.declared.list.Listed.{Listed as Counts}
+use Rattle.path.proofs.SizesLaws.{in-range}
+use Rattle.settle.specs.Room.{Parts, RemovalRoom, InsertionRoom}
+use Rattle.refusal.specs.Refusal.{firstGiven}
+use Rattle.refusal.proofs.RefusalLaws.{none-given, Numbered, none, next}
+use Rattle.card.specs.declared.Card.{Card}
+use Rattle.card.specs.BadCard.{badCard}
+use Rattle.card.specs.declared.Waiting.{Waiting}
+use Rattle.card.specs.declared.Waiting.the-variants.{Nothing, Insert, Extract, Delete}
+use Rattle.card.specs.Tables.{leavesIn, nextStamp, requestTable, waits}
+use Rattle.card.specs.Calls.{listOf, countsFor}
+use Rattle.card.specs.Finish.{wordsNeeded, entryTable}
+use Rattle.card.proofs.GoodLaws.{Good, good}
+use Rattle.card.proofs.BeginLaws.{counts-for, insertable, extractable, deletable, least-proper}
+
+module _ (k : Card) (room : ℕ) where
+  pub entry-numbered : Numbered (entryTable k room)
+  unfolding entryTable
+  entry-numbered = next 13 (omega arith) (next 3 (omega arith) (next 11 (omega arith) none))
+
+  -- a good card on which a request waits: only the room decides
+  module _ (fine : badCard k ≡ false) (busy : waits (k .waiting) ≡ true) (high : 1 ≤ k .sizes .h) where
+    needed : wordsNeeded k ≡ fetchedFor (k .sizes .z) (countsFor (k .sizes .h) (k .waiting))
+    needed = ap (fetchedFor (k .sizes .z)) (counts-for k (k .waiting) high)
+
+    pub words-short : room < fetchedFor (k .sizes .z) (countsFor (k .sizes .h) (k .waiting)) → firstGiven (entryTable k room) ≡ 11
+    unfolding entryTable firstGiven
+    words-short l = rw (fine, busy, needed, lt-ltb _ _ l)
+
+    pub words-enough : fetchedFor (k .sizes .z) (countsFor (k .sizes .h) (k .waiting)) ≤ room → firstGiven (entryTable k room) ≡ 0
+    unfolding entryTable firstGiven
+    words-enough l = rw (fine, busy, needed, le-ltb _ _ l)
+
+  -- none of the three is given
+  pub record Entered : Type 0 where
+    pub card : Good k
+    pub busy : waits (k .waiting) ≡ true
+    pub words : wordsNeeded k ≤ room
+
+  pub entered : firstGiven (entryTable k room) ≡ 0 → Entered
+  unfolding entryTable
+  entered e =
+      let a = none-given 13 _ _ (omega arith) e in
+      let b = none-given 3 _ _ (omega arith) (a .1) in
+      let d = none-given 11 _ _ (omega arith) (b .1) in
+      record { card = good k (a .0); busy = not-false _ (b .0); words = ltb-false _ _ (d .0) }
+
+-- so some request waits
+pub some-waits : (k : Card) (room : ℕ) → firstGiven (entryTable k room) ≡ 0 → k .waiting ≡ Nothing → ⊥
+unfolding waits
+some-waits k room e f = true≢false (sym (entered k room e .busy) ∙ ap waits f)
+
+-- ---- the request that waits is within its rules, and its words are there
+pub record Ready (k : Card) (w : Waiting) (room : ℕ) : Type 0 where
+  pub card : Good k
+  pub request : firstGiven (requestTable k w) ≡ 0
+  pub words : fetchedFor (k .sizes .z) (countsFor (k .sizes .h) w) ≤ room
+
+pub ready : (k : Card) (w : Waiting) (room : ℕ) → k .waiting ≡ w → firstGiven (entryTable k room) ≡ 0 → Ready k w room
+ready k w room e f =
+    let n = entered k room f in
+    let i = in-range (k .sizes) (n .card .sizes) in
+    let a : fetchedFor (k .sizes .z) (counts (listOf k w)) ≤ room =
+    subst (λ (v : Waiting). fetchedFor (k .sizes .z) (counts (listOf k v)) ≤ room) e (n .words) in
+    record {
+      card = n .card;
+      request = rw e at (n .card .waiting);
+      words = subst (λ (m : Counts). fetchedFor (k .sizes .z) m ≤ room) (counts-for k w (i .tree .height .0)) a;
+    }
+
+-- what a finish asks of the card's parts
+parts-fit : (k : Card) → Good k → Parts (k .sizes) (k .t) (k .c)
+parts-fit k g =
+    let i = in-range (k .sizes) (g .sizes) in
+    record {
+      sizes = record { height = i .tree .height; width = i .tree .slots .1; roots = i .roots .1 };
+      counts = (omega (arith, g .spent, i .most), omega (arith, g .live, i .most));
+    }
+
+pub clock-fits : (k : Card) → Good k → k .t ≤ 4294967295
+clock-fits k g = parts-fit k g .counts .0
+
+module _ (k : Card) (ws : List ℕ) where
+  pub insertion-room : (key value : ℕ) (label first second : Leaf) → Ready k (Insert key value label first second) (length ws)
+      → InsertionRoom (k .sizes) (k .t) (k .c) first second ws
+  unfolding countsFor
+  insertion-room key value label first second r =
+      let d = insertable k key value label first second (r .request) in
+      let n = r .words in
+      record {
+        parts = parts-fit k (r .card);
+        lower = omega (arith, d .first);
+        upper = d .second .1;
+        fetched = omega arith;
+      }
+
+  pub deletion-room : (label : Leaf) (stamp : Stamp) → Ready k (Delete label stamp) (length ws)
+      → RemovalRoom (k .sizes) (k .t) (k .c) label ws
+  unfolding countsFor
+  deletion-room label stamp r =
+      let n = r .words in
+      record {
+        parts = parts-fit k (r .card);
+        leaf = deletable k label stamp (r .request) .label;
+        fetched = omega arith;
+      }
+
+  -- the root's least record is a live event
+  pub extracted-proper : Ready k Extract (length ws) → isProper (leavesIn k) (nextStamp k) (k .least) ≡ true
+  extracted-proper r = least-proper k (r .card) (extractable k (r .request) .some)
+
+  pub extraction-room : Ready k Extract (length ws) → RemovalRoom (k .sizes) (k .t) (k .c) (k .least .label) ws
+  unfolding countsFor
+  extraction-room r =
+      let n = r .words in
+      record {
+        parts = parts-fit k (r .card);
+        leaf = proper-true _ _ _ (extracted-proper r) .label;
+        fetched = omega arith;
+      }
