@@ -1,0 +1,38 @@
+-- A path worked on: what the Tree holds afterwards in each bucket of the path, and that it holds all else as before.
+-- Assumes nothing.
+use Prim.Native.Nat.{ℕ, zero, suc, _+_, _*_, _-_, _≤_, _<_}
+use mathlib.Core.List.{List, map}
+use mathlib.Core.Path.{_≡_, refl, sym, ap, _∙_}
+use native.Mathlib.Omega.{arith}
+use lib.ListN.{length}
+use Rattle.record.specs.declared.Leaf.{Leaf}
+use Rattle.record.specs.declared.Record.{Record}
+use Rattle.record.specs.Order.{leastOf}
+use Rattle.path.specs.declared.sizes.Sizes.{Sizes}
+use Rattle.path.specs.Sizes.{leavesOf}
+use Rattle.path.specs.Path.{pathBucket, upFrom}
+use Rattle.path.specs.Layout.{Contents}
+use Rattle.path.proofs.PathLaws.{path-root}
+use Rattle.way.specs.Least.{slotsAt, kids, mendedAt}
+use Rattle.work.specs.Work.{evicted, pathBuckets, rootAfter, leastAfter}
+use Rattle.tree.specs.Tree.{Tree, besideOf, contents}
+use Rattle.tree.specs.Path.{Lays, levelOf}
+use Rattle.tree.specs.Work.{worked}
+use Rattle.tree.proofs.PathLaws.{laid-root, laid-on, laid-off}
+
+-- the path's buckets, the root's at level 0, once the way has become `after`
+abbrev pub bucketAfter : Sizes → Leaf → (ℕ → Record) → List Record → ℕ → Contents
+bucketAfter s q beside after d =
+    contents (leastOf (levelOf (s .r) (s .z) after d) (kids (s .h) q (slotsAt (s .r) (s .z) after) beside (s .h - d)))
+    (levelOf (s .r) (s .z) after d)
+
+module _ (s : Sizes) (q : Leaf) (inside : q .0 < leavesOf (s .h)) (w : List Record) (T : Tree) where
+  pub worked-lays :
+      Lays (s .h) q (bucketAfter s q (besideOf (s .h) q T) (evicted s q (besideOf (s .h) q T) w)) T (worked s q w T)
+  unfolding worked pathBuckets leastAfter rootAfter levelOf
+  worked-lays = record { on = on; off = laid-off (s .h) q inside _ _ T }
+    where
+      on : (d : ℕ) → d ≤ s .h
+          → worked s q w T (pathBucket (s .h) q d) ≡ bucketAfter s q (besideOf (s .h) q T) (evicted s q (besideOf (s .h) q T) w) d
+      on zero l = let e : s .h - 0 ≡ s .h = omega arith in rw (path-root (s .h) q inside, e) (laid-root (s .h) q inside _ _ T)
+      on (suc d) l = laid-on (s .h) q inside _ _ T (suc d) (omega arith) l

@@ -1,0 +1,31 @@
+-- The work of a finish on a Tree: document 01, "A request, step by step". A way is taken out, worked on by the rules of
+-- work/specs/Work.antt, and laid back. Assumes nothing.
+use Prim.Native.Nat.{ℕ}
+use mathlib.Core.Bool.{Bool}
+use mathlib.Core.List.{List}
+use Rattle.record.specs.declared.Leaf.{Leaf}
+use Rattle.record.specs.declared.Record.{Record}
+use Rattle.path.specs.declared.sizes.Sizes.{Sizes}
+use Rattle.path.specs.Layout.{Contents}
+use Rattle.gather.specs.Removal.{removed}
+use Rattle.work.specs.Work.{pathBuckets, rootAfter, leastAfter, seated}
+use Rattle.tree.specs.Tree.{Tree, wayOf, besideOf, contents, laidBack}
+
+module _ (s : Sizes) (q : Leaf) where
+  -- a path worked on, when its way has become w: evicted, least records worked out, "the root last"
+  unfoldable pub worked : List Record → Tree → Tree
+  worked w T =
+      laidBack (s .h) q (pathBuckets s q (besideOf (s .h) q T) w)
+      (contents (leastAfter s q (besideOf (s .h) q T) w) (rootAfter s q (besideOf (s .h) q T) w)) T
+
+  -- ExtractMin and Delete: the record that passes becomes the dummy, or none does
+  abbrev pub taken : (Record → Bool) → Tree → Tree
+  taken f T = worked (removed f (wayOf (s .h) q T)) T
+
+-- Insert: the record into the root, "then evicts the first path, then the second"
+abbrev pub afterFirst : Sizes → Leaf → Record → Tree → Tree
+afterFirst s first new T = worked s first (seated (s .r) new (wayOf (s .h) first T)) T
+
+abbrev pub inserted : Sizes → Leaf → Leaf → Record → Tree → Tree
+inserted s first second new T =
+    worked s second (wayOf (s .h) second (afterFirst s first new T)) (afterFirst s first new T)
