@@ -1,0 +1,9 @@
+-- Laws of a good heap that crates above cite.
+pub mod OnceLaws
+pub mod FitLaws
+pub mod PartsLaws
+pub mod ChangeLaws
+pub mod LeastLaws
+pub mod LowLaws
+pub mod LiveLaws
+pub mod WorkLaws

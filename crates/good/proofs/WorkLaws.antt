@@ -1,0 +1,124 @@
+-- The work of a finish keeps a heap good: one path worked on, a removal, and a removal that finds nothing. Assumes nothing.
+use Prim.Native.Nat.{ℕ, _≤_, _<_}
+use mathlib.Core.Bool.{Bool, true, false, not, _&&_, and-eq-true-iff, true≢false}
+use mathlib.Core.List.{List, [], _∷_, _++_, List·Memᴰ, List·Memᴰ·head, Memᴰ·cast, Memᴰ·append-left}
+use mathlib.Core.Logic.{⊎-elim, _⊎_, inl, inr}
+use mathlib.Core.Path.{_≡_, refl, sym, ap, _∙_}
+use mathlib.Mathlib.Data.Bool.Basic.{dichotomy}
+use native.Mathlib.Omega.{arith}
+use lib.ListN.{length, getD}
+use borrow.Author.Tests.{ltb-true, eqb-true, eq-eqb, not-true}
+use Rattle.record.specs.declared.Leaf.{Leaf}
+use Rattle.record.specs.declared.Bucket.{Bucket}
+use Rattle.record.specs.declared.Stamp.{Stamp}
+use Rattle.record.specs.declared.Record.{Record}
+use Rattle.record.specs.Standing.{dummy, isDummy, isProper}
+use Rattle.record.specs.Many.{every, stampTwice}
+use Rattle.record.proofs.StandingLaws.{proper-true, proper-later, is-dummy}
+use Rattle.record.proofs.ManyLaws.{every-each, each-every}
+use Rattle.path.specs.declared.sizes.Sizes.{Sizes}
+use Rattle.path.specs.Sizes.{leavesOf}
+use Rattle.path.specs.Path.{number, root, pathBucket}
+use Rattle.way.specs.Evict.{seek, evict}
+use Rattle.gather.specs.Removal.{named, found, removed}
+use Rattle.gather.proofs.RemovalLaws.{member-found, found-passes}
+use Rattle.work.specs.Work.{evicted}
+use Rattle.tree.specs.Tree.{Tree, InTree, wayOf, slotsOn, besideOf}
+use Rattle.tree.specs.Path.{OnPath, OffPath}
+use Rattle.tree.specs.Work.{worked, taken}
+use Rattle.tree.proofs.JoinLaws.{level-joined}
+use Rattle.tree.proofs.WorkLaws.{bucketAfter, worked-lays}
+use Rattle.good.specs.Good.{Housed, LeastTrue, Good}
+use Rattle.good.specs.Live.{without}
+use Rattle.good.proofs.OnceLaws.{Shares, Once, once-test, test-once}
+use Rattle.good.proofs.FitLaws.{at-place}
+use Rattle.good.proofs.PartsLaws.{Parts, housed-parts, parts-evicted, parts-housed}
+use Rattle.good.proofs.ChangeLaws.{parts-absent, parts-removed}
+use Rattle.good.proofs.LeastLaws.{mended-true}
+use Rattle.good.proofs.LowLaws.{live-proper, live-real, live-label, stamp-names}
+use Rattle.good.proofs.LiveLaws.{without-in, without-other, without-stay, without-once}
+
+-- ---- one path worked on: only its own buckets' least records may have been false before
+module _ (s : Sizes) (q : Leaf) (inside : q .0 < leavesOf (s .h)) (T : Tree) (old live w : List Record) (next : Stamp)
+    (H : Housed s T old) (leasts : (b : Bucket) → InTree (s .h) b → OffPath (s .h) q b → LeastTrue (s .h) T b)
+    (proper : every (isProper (leavesOf (s .h)) next) live ≡ true) (stamps : stampTwice live ≡ false) (P : Parts s q T live w) where
+  pub worked-good : Good s next (worked s q w T) live
+  worked-good =
+      let lays = worked-lays s q inside w T in
+      record {
+        proper = proper;
+        stamps = stamps;
+        housed = parts-housed s q inside T (worked s q w T) old live (evict (s .h) (s .z) (s .r) q w) H
+            (λ x m. proper-label x m)
+            (parts-evicted s q T live w P) (bucketAfter s q (besideOf (s .h) q T) (evict (s .h) (s .z) (s .r) q w)) lays (λ d l. refl);
+        leasts = mended-true s q inside T (worked s q w T) (evict (s .h) (s .z) (s .r) q w) lays leasts;
+      }
+    where
+      proper-label : (x : Record) → List·Memᴰ x live → x .label .0 < leavesOf (s .h)
+      proper-label x m = proper-true _ next x (every-each _ proper m) .label
+
+-- ---- a removal
+module _ (s : Sizes) (q : Leaf) (inside : q .0 < leavesOf (s .h)) (T : Tree) (live : List Record) (next later : Stamp)
+    (since : next .0 ≤ later .0) (g : Good s next T live) where
+  abbrev way : List Record
+  way = wayOf (s .h) q T
+
+  parts : Parts s q T live way
+  parts = housed-parts s q inside T live (g .housed) (live-label s next T live g)
+
+  proper-since : (some : List Record) → ((x : Record) → List·Memᴰ x some → List·Memᴰ x live) → every (isProper (leavesOf (s .h)) later) some ≡ true
+  proper-since some all = each-every _ some (λ x m. proper-later _ next later x (live-proper s next T live g x (all x m)) since)
+
+  -- a live event with this label is on the way
+  pub live-on-way : (x : Record) → List·Memᴰ x live → x .label ≡ q → List·Memᴰ x (wayOf (s .h) q T)
+  live-on-way x m e =
+      let p = g .housed .seated x m in
+      ⊎-elim (λ d. absurd (true≢false (sym is-dummy ∙ (rw d at (live-real s next T live g x m)))))
+      (λ r. let o = r .1 in level-joined (slotsOn (s .h) q T) (o .level) (s .h) (o .within)
+      (rw (o .is ∙ ap (λ (l : Leaf). pathBucket (s .h) l (o .level)) e) at (p .2)))
+      (g .housed .stands (p .0) (p .1) x (p .2))
+
+  module _ (stamp : Stamp) where
+    -- what has this label and stamp, is live and is found
+    named-is : (x : Record) → named q stamp x ≡ true → (isDummy x ≡ false) × (x .label ≡ q) × (x .stamp .0 ≡ stamp .0)
+    unfolding named
+    named-is x e =
+        let (real, (l, n)) = simp and-eq-true-iff at e in
+        let k = eqb-true (x .label .0) (q .0) l in
+        (not-true (isDummy x) real, (λ i. record { 0 = k i }), eqb-true _ _ n)
+
+    is-named : (x : Record) → isDummy x ≡ false → x .label ≡ q → x .stamp .0 ≡ stamp .0 → named q stamp x ≡ true
+    unfolding named
+    is-named x real l n = rw (real, eq-eqb (x .label .0) (q .0) (ap (λ (a : Leaf). a .0) l), eq-eqb (x .stamp .0) (stamp .0) n)
+
+    pub live-found : (x : Record) → List·Memᴰ x live → x .label ≡ q → x .stamp .0 ≡ stamp .0 → found (named q stamp) (wayOf (s .h) q T) ≡ true
+    live-found x m l n = member-found (named q stamp) (live-on-way x m l) (is-named x (live-real s next T live g x m) l n)
+
+    abbrev there : Record
+    there = getD way (seek (named q stamp) (length way) way) dummy
+
+    -- what is found is live
+    pub found-live : found (named q stamp) (wayOf (s .h) q T) ≡ true
+        → List·Memᴰ (getD (wayOf (s .h) q T) (seek (named q stamp) (length (wayOf (s .h) q T)) (wayOf (s .h) q T)) dummy) live
+    unfolding found
+    found-live f =
+        let r = named-is there (found-passes (named q stamp) way dummy f) in
+        ⊎-elim (λ e. absurd (true≢false (sym is-dummy ∙ (rw e at (r .0))))) (λ m. m)
+        (parts .stands there (at-place way _ (ltb-true _ _ f)))
+
+    -- "replaces .. by the dummy"
+    pub taken-good : found (named q stamp) (wayOf (s .h) q T) ≡ true → Good s later (taken s q (named q stamp) T) (without stamp live)
+    taken-good f =
+        let r = named-is there (found-passes (named q stamp) way dummy f) in
+        let once = test-once live (g .stamps) in
+        worked-good s q inside T live (without stamp live) (removed (named q stamp) way) later (g .housed) (λ b t o. g .leasts b t)
+        (proper-since (without stamp live) (λ x m. without-in stamp live m)) (once-test (without-once stamp live once))
+        (parts-removed s q T live way parts (named q stamp) f (without stamp live) (r .0)
+        (λ x m. (without-in stamp live m, λ n. without-other stamp live (live-real s next T live g) once m (sym (n .stamp) ∙ r .2)))
+        (λ x m n. without-stay stamp live m (λ e. n (record { one = r .0; two = live-real s next T live g x m; stamp = r .2 ∙ sym e }))))
+
+    -- "or answers Absent and removes nothing"
+    pub absent-good : found (named q stamp) (wayOf (s .h) q T) ≡ false → Good s later (taken s q (named q stamp) T) live
+    absent-good f =
+        worked-good s q inside T live live (removed (named q stamp) way) later (g .housed) (λ b t o. g .leasts b t)
+        (proper-since live (λ x m. m)) (g .stamps) (parts-absent s q T live way parts (named q stamp) f)

@@ -1,0 +1,3 @@
+-- What a reader must believe of a good heap.
+pub mod Good
+pub mod Live
