@@ -7,3 +7,6 @@ pub mod LeastLaws
 pub mod LowLaws
 pub mod LiveLaws
 pub mod WorkLaws
+pub mod DamageLaws
+pub mod AlikeLaws
+pub mod RemovalLaws

@@ -1,0 +1,50 @@
+-- A heap is good by what its buckets hold, and by nothing else of it. Assumes nothing.
+use Prim.Native.Nat.{ℕ, _+_, _*_, _≤_, _<_}
+use mathlib.Core.List.{List, [], _∷_}
+use mathlib.Core.Path.{_≡_, refl, sym, ap, _∙_}
+use native.Mathlib.Decide.{decLe}
+use native.Mathlib.Omega.{arith}
+use lib.ListN.{length}
+use Rattle.record.specs.declared.Bucket.{Bucket}
+use Rattle.record.specs.declared.Stamp.{Stamp}
+use Rattle.record.specs.declared.Record.{Record}
+use Rattle.path.specs.declared.sizes.Sizes.{Sizes}
+use Rattle.path.specs.Sizes.{leavesOf}
+use Rattle.path.specs.Path.{number, lowerChild, upperChild}
+use Rattle.path.specs.Layout.{Contents}
+use Rattle.tree.specs.Tree.{Tree, InTree, Alike}
+use Rattle.good.specs.Good.{width, Housed, childrenIn, LeastTrue, Good}
+use Rattle.good.proofs.LeastLaws.{children-inner, children-leaf}
+
+module _ (s : Sizes) (T U : Tree) (same : Alike (s .h) U T) where
+  slots : (b : Bucket) → InTree (s .h) b → U b .slots ≡ T b .slots
+  slots b t = ap (λ (c : Contents). c .slots) (same b t)
+
+  alike-housed : (live : List Record) → Housed s T live → Housed s U live
+  alike-housed live H =
+      record {
+        sized = λ b t. ap length (slots b t) ∙ H .sized b t;
+        stands = λ b t x m. H .stands b t x (rw (slots b t) at m);
+        seated = λ x m. let p = H .seated x m in (p .0, p .1, rw (slots (p .0) (p .1)) (p .2));
+        once = λ b t. rw (slots b t) (H .once b t);
+        apart = λ a b ta tb x y i j. H .apart a b ta tb x y (rw (slots a ta) at i) (rw (slots b tb) at j);
+      }
+
+  alike-least : (b : Bucket) → InTree (s .h) b → LeastTrue (s .h) T b → LeastTrue (s .h) U b
+  alike-least b t e = elim (decLe (leavesOf (s .h)) (number b)) [
+    | yes m ↦ rw (same b t, children-leaf (s .h) U b m) (rw (children-leaf (s .h) T b m) at e)
+    | no m ↦
+        let inner : number b < leavesOf (s .h) = omega arith in
+        let low = same (lowerChild b) (record { some = omega (arith, t .some); most = omega arith }) in
+        let up = same (upperChild b) (record { some = omega arith; most = omega arith }) in
+        rw (same b t, children-inner (s .h) U b inner, low, up) (rw (children-inner (s .h) T b inner) at e)
+  ]
+
+  pub alike-good : (next : Stamp) (live : List Record) → Good s next T live → Good s next U live
+  alike-good next live g =
+      record {
+        proper = g .proper;
+        stamps = g .stamps;
+        housed = alike-housed live (g .housed);
+        leasts = λ b t. alike-least b t (g .leasts b t);
+      }

@@ -1,0 +1,92 @@
+-- ExtractMin and Delete on a good heap in words: what was fetched is not Damaged, what is found is the live event, and what
+-- finish leaves, stored by the rack, is a good heap of the others. Assumes nothing.
+use Prim.Native.Nat.{ℕ, suc, _+_, _*_, _-_, _≤_, _<_}
+use mathlib.Core.Bool.{Bool, true, false}
+use mathlib.Core.List.{List, [], _∷_, _++_, List·Memᴰ}
+use mathlib.Core.Path.{_≡_, refl, sym, ap, _∙_}
+use native.Mathlib.Omega.{arith}
+use lib.ListN.{length, take, drop}
+use Rattle.record.specs.declared.Leaf.{Leaf}
+use Rattle.record.specs.declared.Stamp.{Stamp}
+use Rattle.record.specs.declared.Record.{Record}
+use Rattle.path.specs.declared.sizes.Sizes.{Sizes}
+use Rattle.path.specs.Sizes.{leavesOf}
+use Rattle.path.specs.Path.{root as theRoot, pathBucket}
+use Rattle.path.specs.Layout.{Contents, treeWords}
+use Rattle.path.specs.BucketList.{pathList}
+use Rattle.gather.specs.Removal.{named, found}
+use Rattle.gather.specs.Shown.{siblingsShown, wayShown}
+use Rattle.mend.specs.Mended.{pathWords}
+use Rattle.work.specs.Work.{removalBuckets, removalRoot, removalLeast, rooted}
+use Rattle.damage.specs.Damaged.{pathFetched, pathDamaged}
+use Rattle.damage.proofs.FetchedLaws.{path-alike}
+use Rattle.rack.specs.Copy.{fetched, stored}
+use Rattle.tree.specs.Tree.{Tree, wayOf, treeOf}
+use Rattle.tree.specs.Work.{taken}
+use Rattle.tree.proofs.PathFetch.{tree-root, path-shows, path-sibling, path-way}
+use Rattle.tree.proofs.Removal.{removal-stored}
+use Rattle.good.specs.Good.{Good}
+use Rattle.good.specs.Live.{without}
+use Rattle.good.proofs.AlikeLaws.{alike-good}
+use Rattle.good.proofs.DamageLaws.{shownBy, good-path}
+use Rattle.good.proofs.WorkLaws.{live-found, taken-good, absent-good}
+
+module _ (s : Sizes) (q : Leaf) (inside : q .0 < leavesOf (s .h)) (root : List Record) (full : s .r ≤ length root) (least : Record)
+    (tree words : List ℕ) (size : length tree ≡ treeWords (s .h) (s .z)) (live : List Record) (next : Stamp)
+    (g : Good s next (treeOf (s .z) (take (s .r) root) least tree) live) where
+  abbrev T : Tree
+  T = treeOf (s .z) (take (s .r) root) least tree
+
+  abbrev ws : List ℕ
+  ws = fetched (s .z) tree (pathList (s .h) q) words
+
+  abbrev way : List Record
+  way = wayShown (s .h) (s .z) (s .r) root ws 0
+
+  abbrev sibs : List Record
+  sibs = siblingsShown (s .z) ws (s .h) 0 (s .h)
+
+  way-is : way ≡ wayOf (s .h) q T
+  way-is = path-way (s .h) (s .z) (s .r) q inside root least tree words size
+
+  -- ---- Damaged is denied
+  pub path-undamaged : 1 ≤ s .h
+      → pathDamaged (s .h) (s .r) next least (pathFetched (s .h) (s .z) q (fetched (s .z) tree (pathList (s .h) q) words))
+      (wayShown (s .h) (s .z) (s .r) root (fetched (s .z) tree (pathList (s .h) q) words) 0) ≡ false
+  path-undamaged high =
+      path-alike (s .h) (s .r) high next least way (pathFetched (s .h) (s .z) q ws) (shownBy (s .h) q T)
+      (record {
+        leaf = refl;
+        shown = λ d l m.
+            let e : suc (d - 1) ≡ d = omega arith in
+            path-shows (s .h) (s .z) (s .r) q inside root least tree words size (d - 1) (omega arith) ∙ rw e;
+        beside = λ d l m.
+            let e : suc (d - 1) ≡ d = omega arith in
+            let f : 0 + (d - 1) ≡ d - 1 = omega arith in
+            rw f (path-sibling (s .h) (s .z) (s .r) q inside root least tree words size (d - 1) (omega arith) ∙ rw e);
+      })
+      ∙ rw way-is (rw top at (good-path s next T live g q inside high))
+    where
+      top : T theRoot .least ≡ least
+      top = ap (λ (c : Contents). c .least) (tree-root (s .z) (take (s .r) root) least tree)
+
+  -- ---- what finish leaves, stored
+  module _ (stamp later : Stamp) (since : next .0 ≤ later .0) (more : List ℕ) where
+    abbrev after : Tree
+    after =
+        treeOf (s .z) (take (s .r) (rooted (s .r) (removalRoot s q (named q stamp) sibs way) root)) (removalLeast s q (named q stamp) sibs way)
+        (stored (s .z) (pathList (s .h) q .whole) (pathWords (removalBuckets s q (named q stamp) sibs way) ++ more) tree)
+
+    pub removal-good : found (named q stamp) way ≡ true → Good s later after (without stamp live)
+    removal-good f =
+        alike-good s (taken s q (named q stamp) T) after (removal-stored s q inside root full least tree words size (named q stamp) more)
+        later (without stamp live) (taken-good s q inside T live next later since g stamp (rw way-is at f))
+
+    pub removal-absent : found (named q stamp) way ≡ false → Good s later after live
+    removal-absent f =
+        alike-good s (taken s q (named q stamp) T) after (removal-stored s q inside root full least tree words size (named q stamp) more)
+        later live (absent-good s q inside T live next later since g stamp (rw way-is at f))
+
+    -- a live event with this label and stamp is found
+    pub removal-found : (x : Record) → List·Memᴰ x live → x .label ≡ q → x .stamp .0 ≡ stamp .0 → found (named q stamp) way ≡ true
+    removal-found x m l n = rw way-is (live-found s q inside T live next later since g stamp x m l n)
