@@ -25,7 +25,7 @@ use Rattle.path.proofs.PathLaws.{path-root, path-leaf, path-band, path-parent, 
 use Rattle.way.specs.Least.{slotsAt, inOrder, kids}
 use Rattle.tree.specs.Tree.{Tree, InTree, besideOf, contents}
 use Rattle.tree.specs.Path.{OnPath, OffPath, Lays, levelOf}
-use Rattle.tree.proofs.PathLaws.{path-or}
+use Rattle.tree.proofs.PathLaws.{path-or, child-off}
 use Rattle.tree.proofs.WorkLaws.{bucketAfter}
 use Rattle.good.specs.Good.{childrenIn, LeastTrue}
 
@@ -58,16 +58,6 @@ children-in-order T p b l e = (elim (eqb (number b % 2) 0) as (λ c. eqb (number
     ]) refl
 
 -- ---- a path mended
--- children of a bucket off a path are off it
-pub child-off : (h : ℕ) (q : Leaf) → q .0 < leavesOf h → (b c : Bucket) → 2 ≤ number c → number c / 2 ≡ number b → OffPath h q b → OffPath h q c
-child-off h q inside b c low half off o = go (o .level) (o .within) (o .is)
-  where
-    go : (d : ℕ) → d ≤ h → c ≡ pathBucket h q d → ⊥
-    go zero l e = omega (arith, ap number (e ∙ path-root h q inside))
-    go (suc d) l e =
-        let up : number b ≡ number (pathBucket h q d) = sym half ∙ ap (λ (a : Bucket). number a / 2) e ∙ sym (path-parent h q d l) in
-        off (record { level = d; within = omega arith; is = ap bucket up })
-
 module _ (s : Sizes) (q : Leaf) (inside : q .0 < leavesOf (s .h)) (T U : Tree) (after : List Record)
     (lays : Lays (s .h) q (bucketAfter s q (besideOf (s .h) q T) after) T U) where
   abbrev below : ℕ → List Record

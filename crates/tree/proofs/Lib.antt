@@ -7,3 +7,8 @@ pub mod FetchLaws
 pub mod PathFetch
 pub mod PathStore
 pub mod Removal
+pub mod HalvesLaws
+pub mod PairWork
+pub mod PairFetch
+pub mod PairStore
+pub mod Insertion

@@ -1,5 +1,5 @@
 -- Which buckets a path has, and what stands where once buckets are replaced. Assumes nothing.
-use Prim.Native.Nat.{ℕ, zero, suc, _+_, _-_, _≤_, _<_}
+use Prim.Native.Nat.{ℕ, zero, suc, _+_, _-_, _/_, _≤_, _<_}
 use mathlib.Core.Bool.{true, false}
 use mathlib.Core.List.{List, [], _∷_, map, List·Memᴰ, List·Memᴰ·head, List·Memᴰ·tail, List·Memᴰ·not-nil}
 use mathlib.Core.Logic.{⊎-elim, _⊎_, inl, inr}
@@ -13,7 +13,7 @@ use Rattle.record.specs.declared.Bucket.{Bucket}
 use Rattle.path.specs.Sizes.{leavesOf}
 use Rattle.path.specs.Path.{bucket, number, root, pathBucket, siblingOf, upFrom, path}
 use Rattle.path.specs.Layout.{Contents}
-use Rattle.path.proofs.PathLaws.{path-root, path-in-tree, levels-apart}
+use Rattle.path.proofs.PathLaws.{path-root, path-parent, path-in-tree, levels-apart}
 use Rattle.tree.specs.Tree.{Tree, InTree, put, putAll, laidBack}
 use Rattle.tree.specs.Path.{OnPath, OffPath, Lays}
 
@@ -41,6 +41,16 @@ upto h q b (suc k) =
 pub path-or : (h : ℕ) (q : Leaf) (b : Bucket) → OnPath h q b ⊎ OffPath h q b
 path-or h q b =
     ⊎-elim (λ r. inl (record { level = r .0; within = r .1; is = r .2 })) (λ n. inr (λ o. n (o .level) (o .within) (o .is))) (upto h q b h)
+
+-- children of a bucket off a path are off it
+pub child-off : (h : ℕ) (q : Leaf) → q .0 < leavesOf h → (b c : Bucket) → 2 ≤ number c → number c / 2 ≡ number b → OffPath h q b → OffPath h q c
+child-off h q inside b c low half off o = go (o .level) (o .within) (o .is)
+  where
+    go : (d : ℕ) → d ≤ h → c ≡ pathBucket h q d → ⊥
+    go zero l e = omega (arith, ap number (e ∙ path-root h q inside))
+    go (suc d) l e =
+        let up : number b ≡ number (pathBucket h q d) = sym half ∙ ap (λ (a : Bucket). number a / 2) e ∙ sym (path-parent h q d l) in
+        off (record { level = d; within = omega arith; is = ap bucket up })
 
 -- ---- one bucket replaced
 module _ (b : Bucket) (c : Contents) (T : Tree) where
