@@ -10,3 +10,5 @@ pub mod WorkLaws
 pub mod DamageLaws
 pub mod AlikeLaws
 pub mod RemovalLaws
+pub mod InsertLaws
+pub mod InsertionLaws
