@@ -12,3 +12,6 @@ pub mod AlikeLaws
 pub mod RemovalLaws
 pub mod InsertLaws
 pub mod InsertionLaws
+pub mod FewLaws
+pub mod FreshLaws
+pub mod HeapLaws

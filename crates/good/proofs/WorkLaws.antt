@@ -1,5 +1,5 @@
 -- The work of a finish keeps a heap good: one path worked on, a removal, and a removal that finds nothing. Assumes nothing.
-use Prim.Native.Nat.{ℕ, _≤_, _<_}
+use Prim.Native.Nat.{ℕ, suc, _≤_, _<_}
 use mathlib.Core.Bool.{Bool, true, false, not, _&&_, and-eq-true-iff, true≢false}
 use mathlib.Core.List.{List, [], _∷_, _++_, List·Memᴰ, List·Memᴰ·head, Memᴰ·cast, Memᴰ·append-left}
 use mathlib.Core.Logic.{⊎-elim, _⊎_, inl, inr}
@@ -36,7 +36,7 @@ use Rattle.good.proofs.PartsLaws.{Parts, housed-parts, parts-evicted, p
 use Rattle.good.proofs.ChangeLaws.{parts-absent, parts-removed}
 use Rattle.good.proofs.LeastLaws.{mended-true}
 use Rattle.good.proofs.LowLaws.{live-proper, live-real, live-label, stamp-names}
-use Rattle.good.proofs.LiveLaws.{without-in, without-other, without-stay, without-once}
+use Rattle.good.proofs.LiveLaws.{without-in, without-other, without-stay, without-once, without-length}
 
 -- ---- one path worked on: only its own buckets' least records may have been false before
 module _ (s : Sizes) (q : Leaf) (inside : q .0 < leavesOf (s .h)) (T : Tree) (old live w : List Record) (next : Stamp)
@@ -105,6 +105,10 @@ module _ (s : Sizes) (q : Leaf) (inside : q .0 < leavesOf (s .h)) (T : Tree) (li
         let r = named-is there (found-passes (named q stamp) way dummy f) in
         ⊎-elim (λ e. absurd (true≢false (sym is-dummy ∙ (rw e at (r .0))))) (λ m. m)
         (parts .stands there (at-place way _ (ltb-true _ _ f)))
+
+    -- so there is one fewer without it
+    pub taken-count : found (named q stamp) (wayOf (s .h) q T) ≡ true → length live ≡ suc (length (without stamp live))
+    taken-count f = without-length stamp live (found-live f) (named-is there (found-passes (named q stamp) way dummy f) .2)
 
     -- "replaces .. by the dummy"
     pub taken-good : found (named q stamp) (wayOf (s .h) q T) ≡ true → Good s later (taken s q (named q stamp) T) (without stamp live)

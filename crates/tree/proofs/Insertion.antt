@@ -180,3 +180,6 @@ module _ (s : Sizes) (first second : Leaf) (p : Halves (s .h) first second) (new
       (pair-stored-length (s .h) (s .z) first second p tree size f g
       (λ d l m. slots-after-length s first own₁ seat seat-length d l (omega arith))
       (λ d l m. slots-after-length s second own₂ way₂ way₂-length d l (omega arith)) more)
+
+  pub last-way-length : length (secondWay s first second new b₁ b₂ way slots₂) ≡ s .r + s .z * s .h
+  last-way-length = rw (way-is, slots-are) (ap length (second-way s first second p new T b₁ b₂ same₁ same₂) ∙ way₂-length)

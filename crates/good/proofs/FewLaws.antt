@@ -1,0 +1,124 @@
+-- A good heap's card is no BadCard: no more root records than live events, and a least record that is as it should be.
+-- Assumes nothing.
+use Prim.Native.Nat.{ℕ, zero, suc, _≤_, _<_}
+use mathlib.Core.Bool.{Bool, true, false, cond, not, _&&_, _||_, true≢false}
+use mathlib.Core.List.{List, [], _∷_, List·Memᴰ, List·Memᴰ·head, List·Memᴰ·tail}
+use mathlib.Core.Logic.{⊎-elim, _⊎_, inl, inr}
+use mathlib.Core.Path.{_≡_, refl, sym, ap, _∙_}
+use mathlib.Mathlib.Data.Bool.Basic.{dichotomy}
+use native.Mathlib.Decide.{decLe}
+use native.Mathlib.Omega.{arith}
+use lib.ListN.{length, take}
+use lib.Pow.{pow-pos}
+use borrow.Author.Tests.{ne-eqb, le-ltb}
+use Rattle.record.specs.declared.Stamp.{Stamp}
+use Rattle.record.specs.declared.Record.{Record}
+use Rattle.record.specs.Standing.{dummy, isDummy, isProper, mayStand}
+use Rattle.record.specs.Order.{noLater}
+use Rattle.record.specs.Many.{every, reals, stampTwice}
+use Rattle.record.proofs.StandingLaws.{is-dummy, dummy-is, dummy-stands, proper-stands}
+use Rattle.record.proofs.ManyLaws.{each-every}
+use Rattle.path.specs.declared.sizes.Sizes.{Sizes}
+use Rattle.path.specs.Sizes.{leavesOf}
+use Rattle.path.specs.Path.{root as theRoot}
+use Rattle.path.specs.Layout.{Contents}
+use Rattle.judge.specs.BadParts.{stampOf, oddLeast, badParts}
+use Rattle.judge.proofs.FitLaws.{fit-parts}
+use Rattle.tree.specs.Tree.{Tree, InTree, treeOf}
+use Rattle.tree.proofs.PathFetch.{tree-root}
+use Rattle.good.specs.Good.{Good}
+use Rattle.good.specs.Live.{without}
+use Rattle.good.specs.Heap.{Heap}
+use Rattle.good.proofs.OnceLaws.{Once, none, more, test-once}
+use Rattle.good.proofs.LiveLaws.{without-stay, without-length}
+use Rattle.good.proofs.LowLaws.{live-proper, live-real, root-later, root-live, root-none}
+
+-- ---- no more of them than live events
+pub few-reals : {xs : List Record} (live : List Record) → Once xs → ((x : Record) → List·Memᴰ x xs → isDummy x ≡ false → List·Memᴰ x live)
+    → reals xs ≤ length live
+unfolding reals
+few-reals live none all = omega arith
+few-reals live (more {x} {xs} f o) all = elim (dichotomy (isDummy x)) [
+  | inl real ↦
+      let here = all x (List·Memᴰ·head refl) real in
+      let fewer = without-length (x .stamp) live here refl in
+      let rest = few-reals (without (x .stamp) live) o (λ y m d. without-stay (x .stamp) live (all y (List·Memᴰ·tail m) d)
+      (λ e. f y m (record { one = real; two = d; stamp = sym e }))) in
+      rw real (omega arith)
+  | inr void ↦ rw void (few-reals live o (λ y m d. all y (List·Memᴰ·tail m) d))
+]
+
+-- ---- a least record as it should be
+odd-live : (leaves : ℕ) (next : Stamp) (c : ℕ) (x : Record) → isDummy x ≡ false → mayStand leaves next x ≡ true → 1 ≤ c → oddLeast leaves next c x ≡ false
+unfolding oddLeast
+odd-live leaves next c x real stands l = rw (real, ne-eqb c 0 (omega arith), stands)
+
+odd-none : (leaves : ℕ) (next : Stamp) (c : ℕ) (x : Record) → isDummy x ≡ true → mayStand leaves next x ≡ true → c ≡ 0 → oddLeast leaves next c x ≡ false
+unfolding oddLeast
+odd-none leaves next c x void stands e = rw (void, le-ltb 0 c (omega arith), stands)
+
+module _ (s : Sizes) (t c : ℕ) (root : List Record) (least : Record) (tree : List ℕ) (live : List Record) (H : Heap s t c root least tree live) where
+  abbrev T : Tree
+  T = treeOf (s .z) (take (s .r) root) least tree
+
+  abbrev g : Good s (stampOf t) T live
+  g = H .good
+
+  holds : T theRoot ≡ record { least = least; slots = take (s .r) root }
+  holds = tree-root (s .z) (take (s .r) root) least tree
+
+  in-root : InTree (s .h) theRoot
+  in-root = record { some = omega arith; most = omega (arith, pow-pos (s .h)) }
+
+  pub root-slots : T theRoot .slots ≡ take (s .r) root
+  root-slots = ap (λ (c : Contents). c .slots) holds
+
+  pub root-least : T theRoot .least ≡ least
+  root-least = ap (λ (c : Contents). c .least) holds
+
+  -- a root slot holds the dummy or a live event
+  slot : (x : Record) → List·Memᴰ x (take (s .r) root) → (x ≡ dummy) ⊎ List·Memᴰ x live
+  slot x m = ⊎-elim inl (λ r. inr (r .0)) (g .housed .stands theRoot in-root x (rw root-slots m))
+
+  -- the least record is a live event, or there is none
+  pub least-live : 1 ≤ c → List·Memᴰ least live
+  least-live l = rw root-least at (root-live s (stampOf t) T live g (omega (arith, H .count)))
+
+  pub least-none : c ≡ 0 → least ≡ dummy
+  least-none e = sym root-least ∙ root-none s (stampOf t) T live g (omega (arith, H .count))
+
+  odd : oddLeast (leavesOf (s .h)) (stampOf t) c least ≡ false
+  odd = elim (decLe 1 c) [
+    | yes l ↦
+        let m = least-live l in
+        odd-live _ (stampOf t) c least (live-real s (stampOf t) T live g least m)
+        (proper-stands _ (stampOf t) least (live-proper s (stampOf t) T live g least m)) l
+    | no l ↦
+        let e : c ≡ 0 = omega arith in
+        let void = least-none e in
+        odd-none _ (stampOf t) c least (ap isDummy void ∙ is-dummy) (rw void (dummy-stands _ (stampOf t))) e
+  ]
+
+  pub heap-card : badParts s t c root least ≡ false
+  heap-card =
+      fit-parts s t c root least (record {
+        sizes = H .sizes;
+        spent = H .spent;
+        live = (H .most, H .begun);
+        slots = each-every _ (take (s .r) root) (λ x m. ⊎-elim (λ e. rw e (dummy-stands _ (stampOf t)))
+            (λ i. proper-stands _ (stampOf t) x (live-proper s (stampOf t) T live g x i)) (slot x m));
+        past = H .past;
+        stamps = rw (← root-slots) (g .housed .once theRoot in-root);
+        few = rw (H .count) (few-reals live (test-once _ (rw (← root-slots) (g .housed .once theRoot in-root)))
+            (λ x m d. ⊎-elim (λ e. absurd (true≢false (sym is-dummy ∙ (rw e at d)))) (λ i. i) (slot x m)));
+        odd = odd;
+        first = each-every _ (take (s .r) root) (λ x m. later x m);
+      })
+    where
+      later : (x : Record) → List·Memᴰ x (take (s .r) root) → (isDummy x || noLater least x) ≡ true
+      later x m =
+          let e : noLater least x ≡ true = rw root-least at (root-later s (stampOf t) T live g theRoot in-root x (rw root-slots m)) in
+          elim (dichotomy (isDummy x)) [
+            | inl f ↦ rw (f, e)
+            | inr v ↦ rw v
+          ]

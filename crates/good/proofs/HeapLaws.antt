@@ -1,0 +1,154 @@
+-- Card and rack from the start on: a fresh card and a filled tree are a good heap, and ExtractMin, Delete and Insert, with
+-- what finish leaves stored by the rack, keep it so. Nothing that finish then asks of it is Damaged. Assumes nothing.
+use Prim.Native.Nat.{ℕ, zero, suc, _+_, _*_, _-_, _≤_, _<_}
+use mathlib.Core.Bool.{Bool, true, false}
+use mathlib.Core.List.{List, [], _∷_, _++_, List·Memᴰ, List·Memᴰ·not-nil}
+use mathlib.Core.Logic.{⊎-elim, _⊎_, inl, inr}
+use mathlib.Core.Path.{_≡_, refl, sym, ap, _∙_}
+use native.Mathlib.Omega.{arith}
+use lib.ListN.{length, take, drop, length-append, length-drop}
+use lib.Seq.{drop-at}
+use Rattle.record.specs.declared.Leaf.{Leaf}
+use Rattle.record.specs.declared.Stamp.{Stamp}
+use Rattle.record.specs.declared.Record.{Record}
+use Rattle.record.specs.Standing.{dummy, isDummy, isProper}
+use Rattle.path.specs.declared.sizes.Sizes.{Sizes}
+use Rattle.path.specs.Sizes.{leavesOf}
+use Rattle.path.specs.Layout.{treeWords}
+use Rattle.path.specs.BucketList.{pathList, pairList}
+use Rattle.path.proofs.SizesLaws.{in-range}
+use Rattle.way.specs.Evict.{seek}
+use Rattle.gather.specs.Removal.{named, found, removed}
+use Rattle.gather.specs.Shown.{siblingsShown, slotsShown, wayShown}
+use Rattle.gather.proofs.RemovalLaws.{removed-length}
+use Rattle.mend.specs.Mended.{pathWords, besideAt}
+use Rattle.judge.specs.BadParts.{stampOf}
+use Rattle.work.specs.Work.{rootAfter, leastAfter, removalBuckets, removalRoot, removalLeast, rooted, firstBuckets, secondWay, secondBeside, secondBuckets, secondSiblings}
+use Rattle.rack.specs.Copy.{fetched, stored}
+use Rattle.tree.specs.Tree.{Tree, wayOf, treeOf}
+use Rattle.tree.proofs.PathFetch.{path-way}
+use Rattle.tree.proofs.Removal.{root-after-length, removal-stored-length, tree-way-length}
+use Rattle.tree.proofs.HalvesLaws.{Halves}
+use Rattle.tree.proofs.Insertion.{firstSiblings, insertion-stored-length, last-way-length}
+use Rattle.good.specs.Good.{Good}
+use Rattle.good.specs.Live.{without}
+use Rattle.good.specs.Heap.{Heap}
+use Rattle.good.proofs.WorkLaws.{taken-count}
+use Rattle.good.proofs.RemovalLaws.{removal-good, removal-absent}
+use Rattle.good.proofs.InsertionLaws.{insertion-good}
+
+-- the root's places with R of them replaced
+module _ (r : ℕ) (slots root : List Record) (wide : length slots ≡ r) where
+  rooted-past : drop r (rooted r slots root) ≡ drop r root
+  rooted-past = drop-at slots (drop r root) r wide
+
+  rooted-length : r ≤ length root → length (rooted r slots root) ≡ length root
+  rooted-length l = rw (length-append slots (drop r root), length-drop, wide) (omega arith)
+
+module _ (s : Sizes) (t c : ℕ) (root : List Record) (least : Record) (tree words : List ℕ) (live : List Record)
+    (H : Heap s t c root least tree live) (left : t < s .t) where
+  full : s .r ≤ length root
+  full = omega (arith, H .places, in-range s (H .sizes) .roots .1)
+
+  abbrev T : Tree
+  T = treeOf (s .z) (take (s .r) root) least tree
+
+  -- ---- ExtractMin and Delete
+  module _ (q : Leaf) (inside : q .0 < leavesOf (s .h)) (stamp : Stamp) (more : List ℕ) where
+    abbrev ws : List ℕ
+    ws = fetched (s .z) tree (pathList (s .h) q) words
+
+    abbrev way : List Record
+    way = wayShown (s .h) (s .z) (s .r) root ws 0
+
+    abbrev sibs : List Record
+    sibs = siblingsShown (s .z) ws (s .h) 0 (s .h)
+
+    abbrev f : Record → Bool
+    f = named q stamp
+
+    way-is : way ≡ wayOf (s .h) q T
+    way-is = path-way (s .h) (s .z) (s .r) q inside root least tree words (H .words)
+
+    wide : length (removalRoot s q f sibs way) ≡ s .r
+    wide =
+        root-after-length s q (besideAt sibs) (removed f way)
+        (removed-length f way ∙ ap length way-is ∙ tree-way-length s q inside root full least tree words (H .words))
+
+    -- the parts that hang neither on the count nor on the live events
+    module _ (c′ : ℕ) (live′ : List Record) (count : c′ ≡ length live′) (fewer : c′ ≤ c)
+        (good : Good s (stampOf (suc t)) (treeOf (s .z) (take (s .r) (rooted (s .r) (removalRoot s q f sibs way) root)) (removalLeast s q f sibs way)
+        (stored (s .z) (pathList (s .h) q .whole) (pathWords (removalBuckets s q f sibs way) ++ more) tree)) live′) where
+      removal-parts : Heap s (suc t) c′ (rooted (s .r) (removalRoot s q f sibs way) root) (removalLeast s q f sibs way)
+          (stored (s .z) (pathList (s .h) q .whole) (pathWords (removalBuckets s q f sibs way) ++ more) tree) live′
+      removal-parts =
+          record {
+            sizes = H .sizes;
+            spent = left;
+            count = count;
+            most = omega (arith, H .most);
+            begun = omega (arith, H .begun);
+            places = rooted-length (s .r) (removalRoot s q f sibs way) root wide full ∙ H .places;
+            past = rw (rooted-past (s .r) (removalRoot s q f sibs way) root wide) (H .past);
+            words = removal-stored-length s q inside root full least tree words (H .words) f more;
+            good = good;
+          }
+
+    pub removal-heap : found (named q stamp) way ≡ true
+        → Heap s (suc t) (c - 1) (rooted (s .r) (removalRoot s q f sibs way) root) (removalLeast s q f sibs way)
+        (stored (s .z) (pathList (s .h) q .whole) (pathWords (removalBuckets s q f sibs way) ++ more) tree) (without stamp live)
+    removal-heap there =
+        let n = taken-count s q inside T live (stampOf t) (stampOf (suc t)) (omega arith) (H .good) stamp (rw way-is at there) in
+        removal-parts (c - 1) (without stamp live) (omega (arith, H .count)) (omega arith)
+        (removal-good s q inside root full least tree words (H .words) live (stampOf t) (H .good) stamp (stampOf (suc t)) (omega arith) more there)
+
+    pub absent-heap : found (named q stamp) way ≡ false
+        → Heap s (suc t) c (rooted (s .r) (removalRoot s q f sibs way) root) (removalLeast s q f sibs way)
+        (stored (s .z) (pathList (s .h) q .whole) (pathWords (removalBuckets s q f sibs way) ++ more) tree) live
+    absent-heap gone =
+        removal-parts c live (H .count) (omega arith)
+        (removal-absent s q inside root full least tree words (H .words) live (stampOf t) (H .good) stamp (stampOf (suc t)) (omega arith) more gone)
+
+  -- ---- Insert
+  module _ (first second : Leaf) (p : Halves (s .h) first second) (new : Record) (stamp : new .stamp .0 ≡ t)
+      (proper : isProper (leavesOf (s .h)) (stampOf (suc t)) new ≡ true) (few : c < leavesOf (s .h)) (more : List ℕ) where
+    abbrev ws₂ : List ℕ
+    ws₂ = fetched (s .z) tree (pairList (s .h) first second) words
+
+    abbrev way₁ : List Record
+    way₁ = wayShown (s .h) (s .z) (s .r) root ws₂ 0
+
+    abbrev slots₂ : List Record
+    slots₂ = slotsShown (s .z) ws₂ (s .h) (s .h)
+
+    abbrev b₁ : ℕ → Record
+    b₁ = firstSiblings s ws₂
+
+    abbrev b₂ : ℕ → Record
+    b₂ = secondSiblings s ws₂
+
+    abbrev last : List Record
+    last = secondWay s first second new b₁ b₂ way₁ slots₂
+
+    abbrev beside : ℕ → Record
+    beside = secondBeside s first second new b₁ b₂ way₁ slots₂
+
+    pub insertion-heap : seek isDummy (s .r) way₁ < s .r
+        → Heap s (suc t) (suc c) (rooted (s .r) (rootAfter s second beside last) root) (leastAfter s second beside last)
+        (stored (s .z) (pairList (s .h) first second .whole)
+        (pathWords (firstBuckets s first second new b₁ b₂ way₁ slots₂ ++ secondBuckets s first second new b₁ b₂ way₁ slots₂) ++ more) tree) (live ++ (new ∷ []))
+    insertion-heap room =
+        let wide = root-after-length s second beside last (last-way-length s first second p new root full least tree words (H .words)) in
+        record {
+          sizes = H .sizes;
+          spent = left;
+          count = rw length-append (omega (arith, H .count));
+          most = few;
+          begun = omega (arith, H .begun);
+          places = rooted-length (s .r) (rootAfter s second beside last) root wide full ∙ H .places;
+          past = rw (rooted-past (s .r) (rootAfter s second beside last) root wide) (H .past);
+          words = insertion-stored-length s first second p new root full least tree words (H .words) more;
+          good =
+              insertion-good s first second p root full least tree words (H .words) live (stampOf t) (H .good) new (stampOf (suc t)) (omega arith) stamp
+              proper room more;
+        }
