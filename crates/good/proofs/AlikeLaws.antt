@@ -1,7 +1,7 @@
 -- A heap is good by what its buckets hold, and by nothing else of it. Assumes nothing.
-use Prim.Native.Nat.{ℕ, _+_, _*_, _≤_, _<_}
-use mathlib.Core.List.{List, [], _∷_}
-use mathlib.Core.Path.{_≡_, refl, sym, ap, _∙_}
+use Prim.Native.Nat.{_<_}
+use mathlib.Core.List.{List}
+use mathlib.Core.Path.{_≡_, ap, _∙_}
 use native.Mathlib.Decide.{decLe}
 use native.Mathlib.Omega.{arith}
 use lib.ListN.{length}
@@ -13,7 +13,7 @@ use Rattle.path.specs.Sizes.{leavesOf}
 use Rattle.path.specs.Path.{number, lowerChild, upperChild}
 use Rattle.path.specs.Layout.{Contents}
 use Rattle.tree.specs.Tree.{Tree, InTree, Alike}
-use Rattle.good.specs.Good.{width, Housed, childrenIn, LeastTrue, Good}
+use Rattle.good.specs.Good.{Housed, LeastTrue, Good}
 use Rattle.good.proofs.LeastLaws.{children-inner, children-leaf}
 
 module _ (s : Sizes) (T U : Tree) (same : Alike (s .h) U T) where

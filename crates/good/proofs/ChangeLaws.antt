@@ -1,27 +1,26 @@
 -- A live event goes, or one comes in: what a removal and a seated record do to the live events on a way and off it.
 -- Assumes nothing.
-use Prim.Native.Nat.{ℕ, zero, suc, _+_, _*_, _≤_, _<_}
+use Prim.Native.Nat.{ℕ, zero, suc, _+_, _*_, _<_}
 use mathlib.Core.Bool.{Bool, true, false, true≢false}
-use mathlib.Core.List.{List, [], _∷_, _++_, List·Memᴰ, List·Memᴰ·head, List·Memᴰ·tail, List·Memᴰ·cases-cons, List·Memᴰ·not-nil, List·Memᴰ·append-cases, List·Memᴰ·eq-of-singleton, Memᴰ·append-left, Memᴰ·append-right, Memᴰ·cast}
+use mathlib.Core.List.{List, [], _∷_, _++_, List·Memᴰ, List·Memᴰ·head, List·Memᴰ·tail, List·Memᴰ·cases-cons, List·Memᴰ·append-cases, List·Memᴰ·eq-of-singleton, Memᴰ·append-left, Memᴰ·append-right, Memᴰ·cast}
 use mathlib.Core.Logic.{⊎-elim, _⊎_, inl, inr}
-use mathlib.Core.Path.{_≡_, refl, sym, ap, _∙_}
+use mathlib.Core.Path.{_≡_, refl, sym, _∙_}
 use native.Mathlib.Decide.{ℕ-discrete}
 use native.Mathlib.Omega.{arith}
 use lib.ListN.{length, getD, set, length-set}
 use lib.Seq.{getD-set-same, getD-set-other, set-out}
-use borrow.Author.Tests.{ltb-true, ltb-false, lt-ltb, le-ltb}
+use borrow.Author.Tests.{ltb-true, ltb-false, lt-ltb}
 use Rattle.record.specs.declared.Leaf.{Leaf}
-use Rattle.record.specs.declared.Bucket.{Bucket}
 use Rattle.record.specs.declared.Record.{Record}
 use Rattle.record.specs.Standing.{dummy, isDummy}
 use Rattle.record.proofs.StandingLaws.{is-dummy, dummy-is}
 use Rattle.path.specs.declared.sizes.Sizes.{Sizes}
-use Rattle.way.specs.Evict.{seek, fits}
+use Rattle.way.specs.Evict.{seek}
 use Rattle.gather.specs.Removal.{found, removed}
 use Rattle.work.specs.Work.{seated}
 use Rattle.tree.specs.Tree.{Tree}
 use Rattle.good.proofs.OnceLaws.{Shares, Alone, Once, more, set-mem, once-set, dummy-shares}
-use Rattle.good.proofs.FitLaws.{Fitting, seek-passes, at-place}
+use Rattle.good.proofs.FitLaws.{seek-passes, at-place}
 use Rattle.good.proofs.PartsLaws.{Parts}
 
 -- ---- one place of a list

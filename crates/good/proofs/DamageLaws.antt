@@ -1,13 +1,12 @@
 -- A good heap is not Damaged: what its buckets on a path and beside it hold passes the first three clauses. Assumes
 -- nothing.
-use Prim.Native.Nat.{ℕ, zero, suc, _+_, _*_, _-_, _^_, _≤_, _<_}
-use mathlib.Core.Bool.{Bool, true, false, _||_, _&&_}
-use mathlib.Core.List.{List, [], _∷_, _++_, List·Memᴰ, List·Memᴰ·head, List·Memᴰ·tail, List·Memᴰ·cases-cons, List·Memᴰ·not-nil}
-use mathlib.Core.Logic.{⊎-elim, _⊎_, inl, inr}
-use mathlib.Core.Path.{_≡_, refl, sym, ap, _∙_}
+use Prim.Native.Nat.{ℕ, zero, suc, _+_, _-_, _^_, _≤_, _<_}
+use mathlib.Core.Bool.{true, false}
+use mathlib.Core.List.{List, _∷_, List·Memᴰ, List·Memᴰ·head, List·Memᴰ·tail, List·Memᴰ·cases-cons, List·Memᴰ·not-nil}
+use mathlib.Core.Logic.{⊎-elim}
+use mathlib.Core.Path.{_≡_, sym, ap, _∙_}
 use native.Mathlib.Decide.{decLe}
 use native.Mathlib.Omega.{arith}
-use lib.Dec.{ltb}
 use lib.ListN.{take}
 use lib.Pow.{pow-mono}
 use borrow.Author.Tests.{lt-ltb, le-ltb}
@@ -15,26 +14,25 @@ use Rattle.record.specs.declared.Leaf.{Leaf}
 use Rattle.record.specs.declared.Bucket.{Bucket}
 use Rattle.record.specs.declared.Stamp.{Stamp}
 use Rattle.record.specs.declared.Record.{Record}
-use Rattle.record.specs.Standing.{dummy, isDummy, isProper}
+use Rattle.record.specs.Standing.{isDummy}
 use Rattle.record.specs.Order.{leastOf}
 use Rattle.record.specs.Many.{every}
-use Rattle.record.proofs.StandingLaws.{is-dummy, true-same, proper-not-dummy}
+use Rattle.record.proofs.StandingLaws.{is-dummy, true-same}
 use Rattle.record.proofs.ManyLaws.{each-every}
 use Rattle.path.specs.declared.sizes.Sizes.{Sizes}
 use Rattle.path.specs.Sizes.{leavesOf}
-use Rattle.path.specs.Path.{bucket, number, root, pathBucket, siblingOf, holds, upFrom}
+use Rattle.path.specs.Path.{number, root, pathBucket, siblingOf, holds, upFrom}
 use Rattle.path.specs.Layout.{Contents}
 use Rattle.path.proofs.PathLaws.{path-root, path-band, path-parent, path-in-tree, sibling-band, sibling-in-tree, holds-own}
-use Rattle.way.specs.Least.{inOrder}
 use Rattle.damage.specs.Damage.{sound, pathSound, siblingsSound, kidsShown, leastsTrue}
 use Rattle.damage.specs.Damaged.{Fetched, pathDamaged}
 use Rattle.damage.proofs.DamagedLaws.{PathGood, not-damaged}
-use Rattle.tree.specs.Tree.{Tree, InTree, wayOf, slotsOn, besideOf}
-use Rattle.tree.specs.Path.{OnPath, levelOf}
+use Rattle.tree.specs.Tree.{Tree, wayOf, slotsOn, besideOf}
+use Rattle.tree.specs.Path.{levelOf}
 use Rattle.tree.proofs.JoinLaws.{joined-levels}
 use Rattle.good.specs.Good.{childrenIn, Good}
 use Rattle.good.proofs.OnceLaws.{once-test}
-use Rattle.good.proofs.PartsLaws.{Parts, path-inside, way-sized, housed-parts}
+use Rattle.good.proofs.PartsLaws.{path-inside, way-sized, housed-parts}
 use Rattle.good.proofs.LeastLaws.{children-inner, children-leaf, children-in-order}
 use Rattle.good.proofs.LowLaws.{Noted, least-noted, live-proper, live-real, live-label}
 

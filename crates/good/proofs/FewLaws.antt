@@ -1,8 +1,8 @@
 -- A good heap's card is no BadCard: no more root records than live events, and a least record that is as it should be.
 -- Assumes nothing.
-use Prim.Native.Nat.{ℕ, zero, suc, _≤_, _<_}
-use mathlib.Core.Bool.{Bool, true, false, cond, not, _&&_, _||_, true≢false}
-use mathlib.Core.List.{List, [], _∷_, List·Memᴰ, List·Memᴰ·head, List·Memᴰ·tail}
+use Prim.Native.Nat.{ℕ, _≤_}
+use mathlib.Core.Bool.{true, false, _||_, true≢false}
+use mathlib.Core.List.{List, List·Memᴰ, List·Memᴰ·head, List·Memᴰ·tail}
 use mathlib.Core.Logic.{⊎-elim, _⊎_, inl, inr}
 use mathlib.Core.Path.{_≡_, refl, sym, ap, _∙_}
 use mathlib.Mathlib.Data.Bool.Basic.{dichotomy}
@@ -13,10 +13,10 @@ use lib.Pow.{pow-pos}
 use borrow.Author.Tests.{ne-eqb, le-ltb}
 use Rattle.record.specs.declared.Stamp.{Stamp}
 use Rattle.record.specs.declared.Record.{Record}
-use Rattle.record.specs.Standing.{dummy, isDummy, isProper, mayStand}
+use Rattle.record.specs.Standing.{dummy, isDummy, mayStand}
 use Rattle.record.specs.Order.{noLater}
-use Rattle.record.specs.Many.{every, reals, stampTwice}
-use Rattle.record.proofs.StandingLaws.{is-dummy, dummy-is, dummy-stands, proper-stands}
+use Rattle.record.specs.Many.{reals}
+use Rattle.record.proofs.StandingLaws.{is-dummy, dummy-stands, proper-stands}
 use Rattle.record.proofs.ManyLaws.{each-every}
 use Rattle.path.specs.declared.sizes.Sizes.{Sizes}
 use Rattle.path.specs.Sizes.{leavesOf}

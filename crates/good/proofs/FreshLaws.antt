@@ -1,8 +1,8 @@
 -- A fresh card and a filled tree are a good heap with no live event: "A fresh tree is all dummies." Assumes nothing.
-use Prim.Native.Nat.{ℕ, zero, suc, _+_, _*_, _-_, _≤_, _<_}
-use mathlib.Core.Bool.{Bool, true, false, true≢false}
-use mathlib.Core.List.{List, [], _∷_, _++_, List·Memᴰ, List·Memᴰ·head, List·Memᴰ·tail, List·Memᴰ·cases-cons, List·Memᴰ·not-nil, List·Memᴰ·eq-of-singleton, List·Memᴰ·append-cases}
-use mathlib.Core.Logic.{⊎-elim, _⊎_, inl, inr}
+use Prim.Native.Nat.{ℕ, zero, suc, _+_, _-_, _≤_, _<_}
+use mathlib.Core.Bool.{true, true≢false}
+use mathlib.Core.List.{List, [], _++_, List·Memᴰ, List·Memᴰ·cases-cons, List·Memᴰ·not-nil, List·Memᴰ·eq-of-singleton, List·Memᴰ·append-cases}
+use mathlib.Core.Logic.{⊎-elim, inl}
 use mathlib.Core.Path.{_≡_, refl, sym, ap, _∙_}
 use native.Mathlib.Decide.{decLe}
 use native.Mathlib.Omega.{arith}
@@ -11,7 +11,7 @@ use lib.Seq.{take-at, drop-at}
 use Rattle.record.specs.declared.Bucket.{Bucket}
 use Rattle.record.specs.declared.Record.{Record}
 use Rattle.record.specs.Standing.{dummy, isDummy}
-use Rattle.record.specs.Order.{noLater, smallest, leastOf}
+use Rattle.record.specs.Order.{noLater, smallest}
 use Rattle.record.specs.Many.{every, stampTwice}
 use Rattle.record.proofs.StandingLaws.{is-dummy}
 use Rattle.record.proofs.ManyLaws.{each-every}
@@ -19,7 +19,7 @@ use Rattle.record.proofs.OrderLaws.{smallest-has}
 use Rattle.path.specs.declared.sizes.Sizes.{Sizes}
 use Rattle.path.specs.Sizes.{leavesOf, inRange}
 use Rattle.path.specs.Path.{bucket, number, root as theRoot, lowerChild, upperChild}
-use Rattle.path.specs.Layout.{Contents, treeWords, freshTree}
+use Rattle.path.specs.Layout.{Contents, freshTree}
 use Rattle.path.proofs.SizesLaws.{in-range}
 use Rattle.judge.specs.BadParts.{stampOf}
 use Rattle.rack.proofs.LayoutLaws.{in-tree}
@@ -27,10 +27,10 @@ use Rattle.rack.proofs.RackLaws.{fresh-length, fresh-bucket}
 use Rattle.tree.specs.Tree.{Tree, InTree, treeOf}
 use Rattle.tree.proofs.PathLaws.{same-or}
 use Rattle.tree.proofs.PathFetch.{tree-root, tree-below}
-use Rattle.good.specs.Good.{width, childrenIn, LeastTrue, Good}
+use Rattle.good.specs.Good.{width, childrenIn, Good}
 use Rattle.good.specs.Heap.{Heap}
-use Rattle.good.proofs.OnceLaws.{Shares, Once, none, more, once-test, dummy-shares}
-use Rattle.good.proofs.PartsLaws.{root-width, other-width}
+use Rattle.good.proofs.OnceLaws.{Once, none, more, once-test, dummy-shares}
+use Rattle.good.proofs.PartsLaws.{other-width}
 use Rattle.good.proofs.LeastLaws.{children-inner, children-leaf}
 
 -- ---- nothing but dummies

@@ -1,20 +1,18 @@
 -- Card and rack from the start on: a fresh card and a filled tree are a good heap, and ExtractMin, Delete and Insert, with
 -- what finish leaves stored by the rack, keep it so. Nothing that finish then asks of it is Damaged. Assumes nothing.
-use Prim.Native.Nat.{ℕ, zero, suc, _+_, _*_, _-_, _≤_, _<_}
+use Prim.Native.Nat.{ℕ, suc, _-_, _≤_, _<_}
 use mathlib.Core.Bool.{Bool, true, false}
-use mathlib.Core.List.{List, [], _∷_, _++_, List·Memᴰ, List·Memᴰ·not-nil}
-use mathlib.Core.Logic.{⊎-elim, _⊎_, inl, inr}
-use mathlib.Core.Path.{_≡_, refl, sym, ap, _∙_}
+use mathlib.Core.List.{List, [], _∷_, _++_}
+use mathlib.Core.Path.{_≡_, ap, _∙_}
 use native.Mathlib.Omega.{arith}
 use lib.ListN.{length, take, drop, length-append, length-drop}
 use lib.Seq.{drop-at}
 use Rattle.record.specs.declared.Leaf.{Leaf}
 use Rattle.record.specs.declared.Stamp.{Stamp}
 use Rattle.record.specs.declared.Record.{Record}
-use Rattle.record.specs.Standing.{dummy, isDummy, isProper}
+use Rattle.record.specs.Standing.{isDummy, isProper}
 use Rattle.path.specs.declared.sizes.Sizes.{Sizes}
 use Rattle.path.specs.Sizes.{leavesOf}
-use Rattle.path.specs.Layout.{treeWords}
 use Rattle.path.specs.BucketList.{pathList, pairList}
 use Rattle.path.proofs.SizesLaws.{in-range}
 use Rattle.way.specs.Evict.{seek}

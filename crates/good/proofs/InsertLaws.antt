@@ -1,36 +1,32 @@
 -- An Insert keeps a heap good, and on a good heap what was fetched for its two paths is not Damaged. Assumes nothing.
-use Prim.Native.Nat.{ℕ, zero, suc, _+_, _*_, _-_, _≤_, _<_}
-use mathlib.Core.Bool.{Bool, true, false}
-use mathlib.Core.List.{List, [], _∷_, _++_, append-assoc, List·Memᴰ, List·Memᴰ·head, List·Memᴰ·append-cases, List·Memᴰ·eq-of-singleton, List·Memᴰ·not-nil}
-use mathlib.Core.Logic.{⊎-elim, _⊎_, inl, inr}
-use mathlib.Core.Path.{_≡_, refl, sym, ap, _∙_}
+use Prim.Native.Nat.{ℕ, zero, suc, _≤_, _<_}
+use mathlib.Core.Bool.{true, false}
+use mathlib.Core.List.{List, [], _∷_, _++_, List·Memᴰ, List·Memᴰ·append-cases, List·Memᴰ·eq-of-singleton, List·Memᴰ·not-nil}
+use mathlib.Core.Logic.{⊎-elim}
+use mathlib.Core.Path.{_≡_}
 use native.Mathlib.Omega.{arith}
-use lib.ListN.{length, take}
+use lib.ListN.{length}
 use lib.Pow.{pow-mono}
 use lib.Seq.{take-append-le}
 use Rattle.record.specs.declared.Leaf.{Leaf}
-use Rattle.record.specs.declared.Bucket.{Bucket}
 use Rattle.record.specs.declared.Stamp.{Stamp}
 use Rattle.record.specs.declared.Record.{Record}
-use Rattle.record.specs.Standing.{dummy, isDummy, isProper}
-use Rattle.record.specs.Order.{leastOf}
+use Rattle.record.specs.Standing.{isDummy, isProper}
 use Rattle.record.specs.Many.{every, stampTwice}
 use Rattle.record.proofs.StandingLaws.{proper-true, proper-later, proper-not-dummy, known-below}
 use Rattle.record.proofs.ManyLaws.{each-every}
 use Rattle.path.specs.declared.sizes.Sizes.{Sizes}
 use Rattle.path.specs.Sizes.{leavesOf}
-use Rattle.path.specs.Path.{number, root, pathBucket}
-use Rattle.path.proofs.PathLaws.{path-root}
+use Rattle.path.specs.Path.{root, pathBucket}
 use Rattle.way.specs.Evict.{seek}
 use Rattle.work.specs.Work.{seated}
 use Rattle.damage.specs.Damaged.{pairDamaged}
 use Rattle.damage.proofs.DamagedLaws.{pair-not-damaged}
 use Rattle.tree.specs.Tree.{Tree, InTree, wayOf, slotsOn, belowOf}
-use Rattle.tree.specs.Path.{OffPath}
-use Rattle.tree.specs.Work.{worked, afterFirst, inserted}
+use Rattle.tree.specs.Work.{afterFirst, inserted}
 use Rattle.tree.proofs.ShownLaws.{way-below}
 use Rattle.tree.proofs.HalvesLaws.{Halves, first-inside, first-child, second-child, second-off}
-use Rattle.good.specs.Good.{childrenIn, Good}
+use Rattle.good.specs.Good.{Good}
 use Rattle.good.proofs.OnceLaws.{shares-sym, Alone, Once, none, more, once-test, test-once, once-append, append-once}
 use Rattle.good.proofs.PartsLaws.{Parts, path-inside, housed-parts}
 use Rattle.good.proofs.ChangeLaws.{parts-inserted}

@@ -1,30 +1,27 @@
 -- Least records: the rule holds in every bucket once a path is mended, and where it holds in every bucket the root's least
 -- record is the least of all live events. Assumes nothing.
-use Prim.Native.Nat.{ℕ, zero, suc, _+_, _*_, _-_, _/_, _%_, _≤_, _<_}
-use mathlib.Core.Bool.{Bool, true, false, cond, true≢false}
-use mathlib.Core.List.{List, [], _∷_, _++_, List·Memᴰ, List·Memᴰ·head, List·Memᴰ·tail, List·Memᴰ·cases-cons, List·Memᴰ·not-nil, List·Memᴰ·append-cases, List·Memᴰ·eq-of-singleton, Memᴰ·append-left, Memᴰ·append-right, Memᴰ·cast}
-use mathlib.Core.Logic.{⊎-elim, _⊎_, inl, inr}
+use Prim.Native.Nat.{ℕ, suc, _+_, _*_, _-_, _/_, _%_, _≤_, _<_}
+use mathlib.Core.Bool.{true, false, cond}
+use mathlib.Core.List.{List, [], _∷_}
+use mathlib.Core.Logic.{⊎-elim}
 use mathlib.Core.Path.{_≡_, refl, sym, ap, _∙_}
 use native.Mathlib.Decide.{decLe}
-use native.Mathlib.Nat.{two-pow-succ}
 use native.Mathlib.Omega.{arith}
-use lib.Dec.{eqb, ltb}
+use lib.Dec.{eqb}
 use lib.Pow.{pow-mono}
-use borrow.Author.Tests.{eqb-true, eqb-false, eq-eqb, ne-eqb, lt-ltb, le-ltb}
+use borrow.Author.Tests.{eqb-true, eqb-false, lt-ltb, le-ltb}
 use Rattle.record.specs.declared.Leaf.{Leaf}
 use Rattle.record.specs.declared.Bucket.{Bucket}
 use Rattle.record.specs.declared.Record.{Record}
-use Rattle.record.specs.Standing.{dummy, isDummy}
-use Rattle.record.specs.Order.{noLater, smallest, leastOf}
-use Rattle.record.proofs.OrderLaws.{ordered, smallest-low, smallest-in}
+use Rattle.record.specs.Order.{leastOf}
 use Rattle.path.specs.declared.sizes.Sizes.{Sizes}
 use Rattle.path.specs.Sizes.{leavesOf}
-use Rattle.path.specs.Path.{bucket, number, root, pathBucket, siblingOf, lowerChild, upperChild}
+use Rattle.path.specs.Path.{bucket, number, pathBucket, siblingOf, lowerChild, upperChild}
 use Rattle.path.specs.Layout.{Contents}
-use Rattle.path.proofs.PathLaws.{path-root, path-leaf, path-band, path-parent, path-in-tree, sibling-off, sibling-in-tree}
+use Rattle.path.proofs.PathLaws.{path-band, path-parent, path-in-tree, sibling-off}
 use Rattle.way.specs.Least.{slotsAt, inOrder, kids}
-use Rattle.tree.specs.Tree.{Tree, InTree, besideOf, contents}
-use Rattle.tree.specs.Path.{OnPath, OffPath, Lays, levelOf}
+use Rattle.tree.specs.Tree.{Tree, InTree, besideOf}
+use Rattle.tree.specs.Path.{OffPath, Lays, levelOf}
 use Rattle.tree.proofs.PathLaws.{path-or, child-off}
 use Rattle.tree.proofs.WorkLaws.{bucketAfter}
 use Rattle.good.specs.Good.{childrenIn, LeastTrue}

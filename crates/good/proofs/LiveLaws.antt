@@ -1,7 +1,7 @@
 -- One of the live events goes: which are left, how many, and that no stamp stands twice. Assumes nothing.
-use Prim.Native.Nat.{ℕ, suc}
-use mathlib.Core.Bool.{Bool, true, false}
-use mathlib.Core.List.{List, [], _∷_, _++_, List·Memᴰ, List·Memᴰ·head, List·Memᴰ·tail, List·Memᴰ·cases-cons, List·Memᴰ·not-nil}
+use Prim.Native.Nat.{suc}
+use mathlib.Core.Bool.{false}
+use mathlib.Core.List.{List, [], _∷_, List·Memᴰ, List·Memᴰ·head, List·Memᴰ·tail, List·Memᴰ·cases-cons, List·Memᴰ·not-nil}
 use mathlib.Core.Logic.{⊎-elim, _⊎_, inl, inr}
 use mathlib.Core.Path.{_≡_, refl, sym, ap, _∙_}
 use mathlib.Mathlib.Data.Bool.Basic.{dichotomy}
@@ -12,7 +12,7 @@ use Rattle.record.specs.declared.Stamp.{Stamp}
 use Rattle.record.specs.declared.Record.{Record}
 use Rattle.record.specs.Standing.{isDummy}
 use Rattle.good.specs.Live.{without}
-use Rattle.good.proofs.OnceLaws.{Shares, Once, none, more}
+use Rattle.good.proofs.OnceLaws.{Once, more}
 
 module _ (s : Stamp) where
   module _ (x : Record) (xs : List Record) where

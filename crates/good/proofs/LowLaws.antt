@@ -1,11 +1,10 @@
 -- Where every least record is true: each is the dummy or a live event whose path holds its bucket, and the root's is the
 -- least of all live events. Assumes nothing.
-use Prim.Native.Nat.{ℕ, zero, suc, _+_, _*_, _-_, _/_, _≤_, _<_}
-use mathlib.Core.Bool.{Bool, true, false, true≢false}
+use Prim.Native.Nat.{ℕ, zero, suc, _+_, _*_, _/_, _≤_, _<_}
+use mathlib.Core.Bool.{true, false, true≢false}
 use mathlib.Core.List.{List, [], _∷_, _++_, List·Memᴰ, List·Memᴰ·head, List·Memᴰ·tail, List·Memᴰ·cases-cons, List·Memᴰ·not-nil, List·Memᴰ·append-cases, List·Memᴰ·eq-of-singleton, Memᴰ·append-left, Memᴰ·append-right, Memᴰ·cast}
 use mathlib.Core.Logic.{⊎-elim, _⊎_, inl, inr}
 use mathlib.Core.Path.{_≡_, refl, sym, ap, _∙_}
-use mathlib.Mathlib.Data.Bool.Basic.{dichotomy}
 use native.Mathlib.Decide.{decLe}
 use native.Mathlib.Omega.{arith}
 use lib.ListN.{length}
@@ -15,8 +14,8 @@ use Rattle.record.specs.declared.Leaf.{Leaf}
 use Rattle.record.specs.declared.Stamp.{Stamp}
 use Rattle.record.specs.declared.Record.{Record}
 use Rattle.record.specs.Standing.{dummy, isDummy, isProper}
-use Rattle.record.specs.Order.{noLater, smallest, smallestBy, leastOf}
-use Rattle.record.proofs.StandingLaws.{is-dummy, dummy-is, proper-true, proper-not-dummy}
+use Rattle.record.specs.Order.{noLater, smallest, smallestBy}
+use Rattle.record.proofs.StandingLaws.{proper-true, proper-not-dummy}
 use Rattle.record.proofs.ManyLaws.{every-each}
 use Rattle.record.proofs.OrderLaws.{ordered, smallest-low, smallest-in, dummy-after-proper}
 use Rattle.path.specs.declared.sizes.Sizes.{Sizes}
@@ -25,8 +24,8 @@ use Rattle.path.specs.Path.{bucket, number, root, pathBucket, lowerChild, upper
 use Rattle.path.proofs.PathLaws.{path-root, path-parent}
 use Rattle.tree.specs.Tree.{Tree, InTree}
 use Rattle.tree.specs.Path.{OnPath}
-use Rattle.good.specs.Good.{Housed, childrenIn, LeastTrue, Good}
-use Rattle.good.proofs.OnceLaws.{Shares, Once, test-once, none, more}
+use Rattle.good.specs.Good.{childrenIn, Good}
+use Rattle.good.proofs.OnceLaws.{Once, test-once, more}
 use Rattle.good.proofs.LeastLaws.{children-inner, children-leaf}
 
 -- where no stamp stands twice, a stamp names one record

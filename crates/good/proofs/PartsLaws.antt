@@ -2,15 +2,15 @@
 -- removal and an insertion change it as they should, and a Tree into which the way is laid back is good again. Assumes
 -- nothing.
 use Prim.Native.Nat.{ℕ, zero, suc, _+_, _*_, _≤_, _<_}
-use mathlib.Core.Bool.{Bool, true, false, not, cond, _&&_, true≢false}
-use mathlib.Core.List.{List, [], _∷_, _++_, List·Memᴰ, Memᴰ·cast, List·Permᴰ, Permᴰ·symm}
+use mathlib.Core.Bool.{Bool, true, false, not, _&&_, true≢false}
+use mathlib.Core.List.{List, List·Memᴰ, Permᴰ·symm}
 use mathlib.Core.Logic.{⊎-elim, _⊎_, inl, inr}
 use mathlib.Core.Path.{_≡_, refl, sym, ap, _∙_}
 use mathlib.Mathlib.Data.Bool.Basic.{dichotomy}
 use native.Mathlib.Decide.{decLe}
 use native.Mathlib.Nat.{mul-le-mul-left}
 use native.Mathlib.Omega.{arith}
-use lib.ListN.{length, take}
+use lib.ListN.{length}
 use lib.Pow.{pow-pos}
 use lib.Seq.{length-take-le}
 use borrow.Author.Tests.{ne-eqb}
@@ -21,11 +21,10 @@ use Rattle.record.specs.Standing.{dummy, isDummy}
 use Rattle.record.proofs.StandingLaws.{dummy-is}
 use Rattle.path.specs.declared.sizes.Sizes.{Sizes}
 use Rattle.path.specs.Sizes.{leavesOf}
-use Rattle.path.specs.Path.{bucket, number, root, pathBucket, holds}
+use Rattle.path.specs.Path.{number, root, pathBucket, holds}
 use Rattle.path.specs.Layout.{Contents}
 use Rattle.path.proofs.PathLaws.{path-root, path-in-tree, levels-apart, holds-own, holds-true}
 use Rattle.way.specs.Evict.{fits, evict}
-use Rattle.way.specs.Least.{slotsAt}
 use Rattle.way.proofs.EvictLaws.{length-evict}
 use Rattle.way.proofs.KeptLaws.{evict-keeps}
 use Rattle.way.proofs.LeastLaws.{length-slots}

@@ -1,17 +1,17 @@
 -- ExtractMin and Delete on a good heap in words: what was fetched is not Damaged, what is found is the live event, and what
 -- finish leaves, stored by the rack, is a good heap of the others. Assumes nothing.
-use Prim.Native.Nat.{ℕ, suc, _+_, _*_, _-_, _≤_, _<_}
-use mathlib.Core.Bool.{Bool, true, false}
-use mathlib.Core.List.{List, [], _∷_, _++_, List·Memᴰ}
-use mathlib.Core.Path.{_≡_, refl, sym, ap, _∙_}
+use Prim.Native.Nat.{ℕ, suc, _+_, _-_, _≤_, _<_}
+use mathlib.Core.Bool.{true, false}
+use mathlib.Core.List.{List, _++_, List·Memᴰ}
+use mathlib.Core.Path.{_≡_, refl, ap, _∙_}
 use native.Mathlib.Omega.{arith}
-use lib.ListN.{length, take, drop}
+use lib.ListN.{length, take}
 use Rattle.record.specs.declared.Leaf.{Leaf}
 use Rattle.record.specs.declared.Stamp.{Stamp}
 use Rattle.record.specs.declared.Record.{Record}
 use Rattle.path.specs.declared.sizes.Sizes.{Sizes}
 use Rattle.path.specs.Sizes.{leavesOf}
-use Rattle.path.specs.Path.{root as theRoot, pathBucket}
+use Rattle.path.specs.Path.{root as theRoot}
 use Rattle.path.specs.Layout.{Contents, treeWords}
 use Rattle.path.specs.BucketList.{pathList}
 use Rattle.gather.specs.Removal.{named, found}

@@ -1,11 +1,9 @@
 -- The work of a finish keeps a heap good: one path worked on, a removal, and a removal that finds nothing. Assumes nothing.
-use Prim.Native.Nat.{ℕ, suc, _≤_, _<_}
-use mathlib.Core.Bool.{Bool, true, false, not, _&&_, and-eq-true-iff, true≢false}
-use mathlib.Core.List.{List, [], _∷_, _++_, List·Memᴰ, List·Memᴰ·head, Memᴰ·cast, Memᴰ·append-left}
-use mathlib.Core.Logic.{⊎-elim, _⊎_, inl, inr}
+use Prim.Native.Nat.{suc, _≤_, _<_}
+use mathlib.Core.Bool.{true, false, and-eq-true-iff, true≢false}
+use mathlib.Core.List.{List, List·Memᴰ}
+use mathlib.Core.Logic.{⊎-elim}
 use mathlib.Core.Path.{_≡_, refl, sym, ap, _∙_}
-use mathlib.Mathlib.Data.Bool.Basic.{dichotomy}
-use native.Mathlib.Omega.{arith}
 use lib.ListN.{length, getD}
 use borrow.Author.Tests.{ltb-true, eqb-true, eq-eqb, not-true}
 use Rattle.record.specs.declared.Leaf.{Leaf}
@@ -18,24 +16,23 @@ use Rattle.record.proofs.StandingLaws.{proper-true, proper-later, is-dummy}
 use Rattle.record.proofs.ManyLaws.{every-each, each-every}
 use Rattle.path.specs.declared.sizes.Sizes.{Sizes}
 use Rattle.path.specs.Sizes.{leavesOf}
-use Rattle.path.specs.Path.{number, root, pathBucket}
+use Rattle.path.specs.Path.{pathBucket}
 use Rattle.way.specs.Evict.{seek, evict}
 use Rattle.gather.specs.Removal.{named, found, removed}
 use Rattle.gather.proofs.RemovalLaws.{member-found, found-passes}
-use Rattle.work.specs.Work.{evicted}
 use Rattle.tree.specs.Tree.{Tree, InTree, wayOf, slotsOn, besideOf}
-use Rattle.tree.specs.Path.{OnPath, OffPath}
+use Rattle.tree.specs.Path.{OffPath}
 use Rattle.tree.specs.Work.{worked, taken}
 use Rattle.tree.proofs.JoinLaws.{level-joined}
 use Rattle.tree.proofs.WorkLaws.{bucketAfter, worked-lays}
 use Rattle.good.specs.Good.{Housed, LeastTrue, Good}
 use Rattle.good.specs.Live.{without}
-use Rattle.good.proofs.OnceLaws.{Shares, Once, once-test, test-once}
+use Rattle.good.proofs.OnceLaws.{once-test, test-once}
 use Rattle.good.proofs.FitLaws.{at-place}
 use Rattle.good.proofs.PartsLaws.{Parts, housed-parts, parts-evicted, parts-housed}
 use Rattle.good.proofs.ChangeLaws.{parts-absent, parts-removed}
 use Rattle.good.proofs.LeastLaws.{mended-true}
-use Rattle.good.proofs.LowLaws.{live-proper, live-real, live-label, stamp-names}
+use Rattle.good.proofs.LowLaws.{live-proper, live-real, live-label}
 use Rattle.good.proofs.LiveLaws.{without-in, without-other, without-stay, without-once, without-length}
 
 -- ---- one path worked on: only its own buckets' least records may have been false before

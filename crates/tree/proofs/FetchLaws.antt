@@ -1,7 +1,7 @@
 -- A fetch on the heap's level: the words that the rack gives for a listed bucket are what the Tree holds there. Assumes
 -- nothing.
-use Prim.Native.Nat.{ℕ, zero, suc, _+_, _*_, _-_, _≤_, _<_}
-use mathlib.Core.List.{List, [], _∷_, _++_, map, List·Memᴰ, List·Memᴰ·head, List·Memᴰ·tail, List·Memᴰ·not-nil}
+use Prim.Native.Nat.{ℕ, suc, _+_, _*_, _≤_, _<_}
+use mathlib.Core.List.{List, [], _∷_}
 use mathlib.Core.Path.{_≡_, refl, sym, ap, _∙_}
 use native.Mathlib.Nat.{mul-le-mul-right}
 use native.Mathlib.Omega.{arith}
@@ -13,12 +13,12 @@ use Rattle.record.specs.Standing.{dummy}
 use Rattle.record.specs.Words.{records}
 use Rattle.record.proofs.WordsLaws.{records-take, records-drop}
 use Rattle.path.specs.Path.{bucket}
-use Rattle.path.specs.Layout.{Contents, recordWords, bucketWords, bucketStart}
+use Rattle.path.specs.Layout.{recordWords, bucketWords, bucketStart}
 use Rattle.path.specs.BucketList.{BucketList}
 use Rattle.gather.specs.Shown.{wholeAt, siblingAt}
 use Rattle.gather.proofs.ShownLaws.{whole-records}
 use Rattle.rack.specs.Answers.{wordsFor}
-use Rattle.rack.specs.Copy.{bucketPart, leastPart, fetchedWords, fetched, AllStand}
+use Rattle.rack.specs.Copy.{bucketPart, fetched, AllStand}
 use Rattle.rack.specs.BucketAt.{contentsOf, bucketAt}
 use Rattle.rack.proofs.FetchLaws.{fetched-whole, fetched-least, fetched-length}
 

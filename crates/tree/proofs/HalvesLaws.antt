@@ -1,16 +1,15 @@
 -- An Insert's two paths: they part at the root's children, and below the root neither meets the other nor its siblings.
 -- Assumes nothing.
-use Prim.Native.Nat.{ℕ, zero, suc, _+_, _*_, _-_, _/_, _^_, _≤_, _<_}
-use mathlib.Core.Path.{_≡_, refl, sym, ap, _∙_}
+use Prim.Native.Nat.{ℕ, zero, suc, _+_, _-_, _/_, _^_, _≤_, _<_}
+use mathlib.Core.Path.{_≡_, sym, ap, _∙_}
 use native.Mathlib.Nat.{two-pow-succ, le-div-iff-mul-le}
 use native.Mathlib.Omega.{arith}
 use lib.Pow.{shr-lt, pow-pos}
 use Rattle.record.specs.declared.Leaf.{Leaf}
-use Rattle.record.specs.declared.Bucket.{Bucket}
 use Rattle.path.specs.Sizes.{leavesOf}
-use Rattle.path.specs.Path.{bucket, number, root, pathBucket, siblingOf}
-use Rattle.path.proofs.PathLaws.{path-root, path-split, path-parent, path-in-tree, pair-apart, sibling-parent, sibling-in-tree}
-use Rattle.tree.specs.Path.{OnPath, OffPath}
+use Rattle.path.specs.Path.{bucket, number, pathBucket, siblingOf}
+use Rattle.path.proofs.PathLaws.{path-root, path-split, path-parent, pair-apart, sibling-parent, sibling-in-tree}
+use Rattle.tree.specs.Path.{OffPath}
 use Rattle.tree.proofs.PathLaws.{not-root, child-off}
 
 -- "the first below N/2, the second from N/2 to N-1"

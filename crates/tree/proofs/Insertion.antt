@@ -1,20 +1,18 @@
 -- An Insert on words is an Insert on the Tree: its work, done by the definitions that finish cites on what card and fetched
 -- words show, then stored by the rack, leaves the Tree that the same work on the Tree's own ways leaves. Assumes nothing.
-use Prim.Native.Nat.{ℕ, zero, suc, _+_, _*_, _-_, _≤_, _<_}
+use Prim.Native.Nat.{ℕ, _+_, _*_, _-_, _≤_}
 use mathlib.Core.Bool.{Bool, true, false, cond}
-use mathlib.Core.List.{List, [], _∷_, _++_, map, append-assoc}
+use mathlib.Core.List.{List, _++_, map, append-assoc}
 use mathlib.Core.Path.{_≡_, refl, sym, ap, _∙_}
 use native.Mathlib.Omega.{arith}
 use lib.Dec.{ltb}
 use lib.ListN.{length, take, drop, set, length-append, length-set}
 use lib.Seq.{take-at}
 use Rattle.record.specs.declared.Leaf.{Leaf}
-use Rattle.record.specs.declared.Bucket.{Bucket}
 use Rattle.record.specs.declared.Record.{Record}
 use Rattle.record.specs.Standing.{isDummy}
 use Rattle.path.specs.declared.sizes.Sizes.{Sizes}
-use Rattle.path.specs.Sizes.{leavesOf}
-use Rattle.path.specs.Path.{root, pathBucket, upFrom}
+use Rattle.path.specs.Path.{pathBucket, upFrom}
 use Rattle.path.specs.Layout.{Contents, treeWords}
 use Rattle.path.specs.BucketList.{pairList}
 use Rattle.way.specs.Evict.{seek}
@@ -22,10 +20,9 @@ use Rattle.way.specs.Least.{mendedAt}
 use Rattle.gather.specs.Shown.{siblingAt, slotsShown, wayShown}
 use Rattle.gather.proofs.ShownLaws.{way-length, slots-length}
 use Rattle.mend.specs.Mended.{pathWords}
-use Rattle.work.specs.Work.{evicted, slotsAfter, pathBuckets, rootAfter, leastAfter, seated, firstBuckets, secondWay, secondBeside, secondBuckets, secondSiblings, rooted}
+use Rattle.work.specs.Work.{slotsAfter, pathBuckets, rootAfter, leastAfter, seated, firstBuckets, secondWay, secondBeside, secondBuckets, secondSiblings, rooted}
 use Rattle.rack.specs.Copy.{fetched, stored}
 use Rattle.tree.specs.Tree.{Tree, Alike, wayOf, belowOf, besideOf, contents, treeOf}
-use Rattle.tree.specs.Path.{OffPath}
 use Rattle.tree.specs.Work.{worked, afterFirst, inserted}
 use Rattle.tree.proofs.PathLaws.{laid-root, laid-on, laid-off}
 use Rattle.tree.proofs.FetchLaws.{fetched-long}

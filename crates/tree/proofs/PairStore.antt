@@ -1,16 +1,15 @@
 -- An Insert's two paths stored: where finish has laid the first path's buckets, then the second's, over the first of the
 -- fetched words and the rack has stored them, card and tree hold the Tree with both paths laid back. Assumes nothing.
-use Prim.Native.Nat.{ℕ, zero, suc, _+_, _*_, _-_, _≤_, _<_}
-use mathlib.Core.List.{List, [], _∷_, _++_, map, append-assoc, List·Memᴰ, List·Memᴰ·append-cases}
-use mathlib.Core.Logic.{⊎-elim, _⊎_, inl, inr}
+use Prim.Native.Nat.{ℕ, suc, _+_, _*_, _-_, _≤_, _<_}
+use mathlib.Core.List.{List, [], _∷_, _++_, map, append-assoc, List·Memᴰ·append-cases}
+use mathlib.Core.Logic.{⊎-elim}
 use mathlib.Core.Path.{_≡_, refl, sym, ap, _∙_}
 use native.Mathlib.Omega.{arith}
-use lib.ListN.{length, getD, take, drop, length-append}
+use lib.ListN.{length, getD, length-append}
 use lib.Seq.{drop-drop, drop-at}
 use Rattle.record.specs.declared.Leaf.{Leaf}
 use Rattle.record.specs.declared.Bucket.{Bucket}
 use Rattle.record.specs.declared.Record.{Record}
-use Rattle.record.specs.Words.{records}
 use Rattle.path.specs.Sizes.{leavesOf}
 use Rattle.path.specs.Path.{bucket, number, root, pathBucket, upFrom, path}
 use Rattle.path.specs.Layout.{Contents, bucketWords, treeWords, contentsWords}
@@ -20,7 +19,7 @@ use Rattle.path.proofs.ListLaws.{length-path}
 use Rattle.mend.specs.Mended.{pathWords}
 use Rattle.mend.proofs.PartLaws.{length-buckets}
 use Rattle.rack.specs.Copy.{stored, AllStand}
-use Rattle.rack.specs.BucketAt.{contentsOf, bucketAt}
+use Rattle.rack.specs.BucketAt.{bucketAt}
 use Rattle.rack.proofs.LayoutLaws.{in-tree}
 use Rattle.rack.proofs.ListedLaws.{pair-distinct}
 use Rattle.rack.proofs.RackLaws.{kept, each-stands, contentsAt}

@@ -1,7 +1,7 @@
 -- An Insert on the Tree, as finish works it out: the first path's buckets do not hang on the sibling at level 1, which is
 -- not fetched, and the second path finds what the first left. Assumes nothing.
-use Prim.Native.Nat.{ℕ, zero, suc, _+_, _*_, _-_, _≤_, _<_}
-use mathlib.Core.List.{List, [], _∷_, _++_, map}
+use Prim.Native.Nat.{ℕ, zero, suc, _+_, _-_, _≤_, _<_}
+use mathlib.Core.List.{List, _++_, map}
 use mathlib.Core.Path.{_≡_, refl, sym, ap, _∙_}
 use native.Mathlib.Decide.{decLe}
 use native.Mathlib.Omega.{arith}
@@ -11,14 +11,14 @@ use Rattle.record.specs.declared.Bucket.{Bucket}
 use Rattle.record.specs.declared.Record.{Record}
 use Rattle.record.specs.Order.{leastOf}
 use Rattle.path.specs.declared.sizes.Sizes.{Sizes}
-use Rattle.path.specs.Path.{root, pathBucket, siblingOf, upFrom}
+use Rattle.path.specs.Path.{pathBucket, upFrom}
 use Rattle.path.specs.Layout.{Contents}
 use Rattle.path.proofs.PathLaws.{path-root}
-use Rattle.way.specs.Least.{slotsAt, kids, mendedAt, mended}
-use Rattle.work.specs.Work.{evicted, slotsAfter, pathBuckets, rootAfter, leastAfter, seated, firstWay, firstBuckets, secondWay, topFirst, secondBeside, secondBuckets}
+use Rattle.way.specs.Least.{kids, mendedAt, mended}
+use Rattle.work.specs.Work.{evicted, slotsAfter, pathBuckets, rootAfter, leastAfter, seated, firstBuckets, secondWay, topFirst, secondBeside, secondBuckets}
 use Rattle.work.proofs.BesideLaws.{kids-same, mended-same}
 use Rattle.tree.specs.Tree.{Tree, wayOf, slotsOn, belowOf, besideOf}
-use Rattle.tree.specs.Path.{OffPath, Lays, levelOf}
+use Rattle.tree.specs.Path.{Lays, levelOf}
 use Rattle.tree.specs.Work.{afterFirst}
 use Rattle.tree.proofs.ShownLaws.{way-below}
 use Rattle.tree.proofs.WorkLaws.{bucketAfter, worked-lays}

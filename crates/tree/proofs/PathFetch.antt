@@ -1,6 +1,6 @@
 -- One path fetched: what card and fetched words show is the Tree's way and the least records beside it. Assumes nothing.
-use Prim.Native.Nat.{ℕ, zero, suc, _+_, _*_, _-_, _≤_, _<_}
-use mathlib.Core.List.{List, [], _∷_, _++_, map, map-map, List·Memᴰ, List·Memᴰ·head, List·Memᴰ·tail, List·Memᴰ·not-nil}
+use Prim.Native.Nat.{ℕ, zero, suc, _+_, _-_, _≤_, _<_}
+use mathlib.Core.List.{List, [], _∷_, map, map-map, List·Memᴰ, List·Memᴰ·head, List·Memᴰ·tail, List·Memᴰ·not-nil}
 use mathlib.Core.Path.{_≡_, refl, sym, ap, _∙_}
 use native.Mathlib.Omega.{arith}
 use lib.ListN.{length, getD, take}
@@ -10,13 +10,13 @@ use Rattle.record.specs.declared.Record.{Record}
 use Rattle.path.specs.Sizes.{leavesOf}
 use Rattle.path.specs.Path.{bucket, number, root, pathBucket, siblingOf, upFrom, path}
 use Rattle.path.specs.Layout.{Contents, treeWords}
-use Rattle.path.specs.BucketList.{BucketList, pathList}
+use Rattle.path.specs.BucketList.{pathList}
 use Rattle.path.proofs.PathLaws.{path-root, path-in-tree, sibling-in-tree, path-at}
 use Rattle.path.proofs.ListLaws.{length-path, length-siblings}
-use Rattle.gather.specs.Shown.{wholeAt, siblingAt, siblingsShown, wayShown}
+use Rattle.gather.specs.Shown.{siblingAt, siblingsShown, wayShown}
 use Rattle.gather.proofs.ShownLaws.{siblings-at}
 use Rattle.mend.specs.Mended.{besideAt}
-use Rattle.rack.specs.Copy.{fetched, Stands, AllStand}
+use Rattle.rack.specs.Copy.{fetched, AllStand}
 use Rattle.rack.specs.BucketAt.{bucketAt}
 use Rattle.rack.proofs.LayoutLaws.{in-tree}
 use Rattle.tree.specs.Tree.{Tree, contents, treeOf, wayOf, besideOf}

@@ -1,7 +1,7 @@
 -- Which buckets a path has, and what stands where once buckets are replaced. Assumes nothing.
 use Prim.Native.Nat.{ℕ, zero, suc, _+_, _-_, _/_, _≤_, _<_}
 use mathlib.Core.Bool.{true, false}
-use mathlib.Core.List.{List, [], _∷_, map, List·Memᴰ, List·Memᴰ·head, List·Memᴰ·tail, List·Memᴰ·not-nil}
+use mathlib.Core.List.{map}
 use mathlib.Core.Logic.{⊎-elim, _⊎_, inl, inr}
 use mathlib.Core.Path.{_≡_, refl, sym, ap, _∙_}
 use native.Mathlib.Decide.{decLe}
@@ -11,11 +11,11 @@ use borrow.Author.Tests.{eqb-true, eqb-false, eq-eqb, ne-eqb}
 use Rattle.record.specs.declared.Leaf.{Leaf}
 use Rattle.record.specs.declared.Bucket.{Bucket}
 use Rattle.path.specs.Sizes.{leavesOf}
-use Rattle.path.specs.Path.{bucket, number, root, pathBucket, siblingOf, upFrom, path}
+use Rattle.path.specs.Path.{bucket, number, root, pathBucket, upFrom, path}
 use Rattle.path.specs.Layout.{Contents}
 use Rattle.path.proofs.PathLaws.{path-root, path-parent, path-in-tree, levels-apart}
-use Rattle.tree.specs.Tree.{Tree, InTree, put, putAll, laidBack}
-use Rattle.tree.specs.Path.{OnPath, OffPath, Lays}
+use Rattle.tree.specs.Tree.{Tree, put, putAll, laidBack}
+use Rattle.tree.specs.Path.{OnPath, OffPath}
 
 -- ---- a bucket, decided
 pub same-or : (a b : Bucket) → (a ≡ b) ⊎ (a ≡ b → ⊥)

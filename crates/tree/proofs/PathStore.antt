@@ -1,11 +1,11 @@
 -- One path stored: where finish has laid the path's buckets over the first of the fetched words and the rack has stored
 -- them, card and tree hold the Tree with the way laid back. Assumes nothing.
-use Prim.Native.Nat.{ℕ, zero, suc, _+_, _*_, _-_, _≤_, _<_}
-use mathlib.Core.List.{List, [], _∷_, _++_, map, List·Memᴰ}
-use mathlib.Core.Logic.{⊎-elim, _⊎_, inl, inr}
-use mathlib.Core.Path.{_≡_, refl, sym, ap, _∙_}
+use Prim.Native.Nat.{ℕ, suc, _+_, _*_, _-_, _≤_, _<_}
+use mathlib.Core.List.{List, _∷_, _++_, map}
+use mathlib.Core.Logic.{⊎-elim}
+use mathlib.Core.Path.{_≡_, sym, ap, _∙_}
 use native.Mathlib.Omega.{arith}
-use lib.ListN.{length, getD, take, drop, length-append}
+use lib.ListN.{length, length-append}
 use Rattle.record.specs.declared.Leaf.{Leaf}
 use Rattle.record.specs.declared.Bucket.{Bucket}
 use Rattle.record.specs.declared.Record.{Record}
@@ -14,18 +14,18 @@ use Rattle.record.proofs.WordsLaws.{records-words}
 use Rattle.path.specs.Sizes.{leavesOf}
 use Rattle.path.specs.Path.{bucket, number, root, pathBucket, upFrom, path}
 use Rattle.path.specs.Layout.{Contents, bucketWords, treeWords}
-use Rattle.path.specs.BucketList.{BucketList, pathList}
+use Rattle.path.specs.BucketList.{pathList}
 use Rattle.path.proofs.PathLaws.{path-root, path-at}
 use Rattle.path.proofs.ListLaws.{length-path}
 use Rattle.mend.specs.Mended.{pathWords}
 use Rattle.mend.proofs.PartLaws.{length-buckets, bucket-part}
-use Rattle.rack.specs.Copy.{stored, Stands, AllStand}
+use Rattle.rack.specs.Copy.{stored, AllStand}
 use Rattle.rack.specs.BucketAt.{contentsOf, bucketAt}
 use Rattle.rack.proofs.LayoutLaws.{in-tree}
 use Rattle.rack.proofs.ListedLaws.{path-distinct}
 use Rattle.rack.proofs.RackLaws.{kept, each-stands, contentsAt}
 use Rattle.rack.proofs.StoreLaws.{stored-length}
-use Rattle.tree.specs.Tree.{Tree, InTree, Alike, contents, laidBack, treeOf}
+use Rattle.tree.specs.Tree.{Tree, Alike, contents, laidBack, treeOf}
 use Rattle.tree.specs.Path.{OnPath, OffPath}
 use Rattle.tree.proofs.PathLaws.{same-or, path-or, laid-root, laid-on, laid-off}
 use Rattle.tree.proofs.PathFetch.{levels-list, path-wholes, tree-root, tree-below}

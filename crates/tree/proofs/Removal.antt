@@ -1,10 +1,10 @@
 -- A removal on words is a removal on the Tree: ExtractMin's and Delete's work, done by the definitions that finish cites on
 -- what card and fetched words show, then stored by the rack, leaves the Tree that the same work on the Tree's own way leaves.
 -- Assumes nothing.
-use Prim.Native.Nat.{ℕ, zero, suc, _+_, _*_, _-_, _≤_, _<_}
+use Prim.Native.Nat.{ℕ, _+_, _*_, _≤_, _<_}
 use mathlib.Core.Bool.{Bool}
-use mathlib.Core.List.{List, [], _∷_, _++_, map}
-use mathlib.Core.Path.{_≡_, refl, sym, ap, _∙_}
+use mathlib.Core.List.{List, _++_}
+use mathlib.Core.Path.{_≡_, sym, ap, _∙_}
 use native.Mathlib.Nat.{mul-le-mul-left}
 use native.Mathlib.Omega.{arith}
 use lib.ListN.{length, take, drop}
@@ -13,11 +13,10 @@ use Rattle.record.specs.declared.Leaf.{Leaf}
 use Rattle.record.specs.declared.Record.{Record}
 use Rattle.path.specs.declared.sizes.Sizes.{Sizes}
 use Rattle.path.specs.Sizes.{leavesOf}
-use Rattle.path.specs.Path.{upFrom}
-use Rattle.path.specs.Layout.{Contents, treeWords}
+use Rattle.path.specs.Layout.{treeWords}
 use Rattle.path.specs.BucketList.{pathList}
-use Rattle.path.proofs.ListLaws.{length-path, length-siblings}
-use Rattle.way.specs.Least.{slotsAt, mendedAt}
+use Rattle.path.proofs.ListLaws.{length-path}
+use Rattle.way.specs.Least.{mendedAt}
 use Rattle.way.proofs.EvictLaws.{length-evict}
 use Rattle.way.proofs.LeastLaws.{length-slots}
 use Rattle.gather.specs.Removal.{removed}

@@ -1,14 +1,13 @@
 -- What fetched words show of a path is what a Tree holds there, for any words and any Tree that agree bucket by bucket.
 -- Assumes nothing.
-use Prim.Native.Nat.{ℕ, zero, suc, _+_, _*_, _-_, _≤_, _<_}
-use mathlib.Core.List.{List, [], _∷_, _++_, append-assoc, append-nil}
+use Prim.Native.Nat.{ℕ, zero, suc, _+_, _≤_, _<_}
+use mathlib.Core.List.{List, _++_, append-assoc, append-nil}
 use mathlib.Core.Path.{_≡_, refl, sym, ap, _∙_}
 use native.Mathlib.Omega.{arith}
 use lib.ListN.{take}
 use Rattle.record.specs.declared.Leaf.{Leaf}
 use Rattle.record.specs.declared.Record.{Record}
-use Rattle.path.specs.Path.{root, pathBucket}
-use Rattle.path.specs.Layout.{Contents}
+use Rattle.path.specs.Path.{pathBucket}
 use Rattle.gather.specs.Shown.{wholeAt, slotsShown, wayShown}
 use Rattle.tree.specs.Tree.{Tree, joined, slotsOn, wayOf, belowOf}
 

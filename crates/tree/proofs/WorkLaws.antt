@@ -1,19 +1,18 @@
 -- A path worked on: what the Tree holds afterwards in each bucket of the path, and that it holds all else as before.
 -- Assumes nothing.
-use Prim.Native.Nat.{ℕ, zero, suc, _+_, _*_, _-_, _≤_, _<_}
-use mathlib.Core.List.{List, map}
-use mathlib.Core.Path.{_≡_, refl, sym, ap, _∙_}
+use Prim.Native.Nat.{ℕ, zero, suc, _-_, _≤_, _<_}
+use mathlib.Core.List.{List}
+use mathlib.Core.Path.{_≡_}
 use native.Mathlib.Omega.{arith}
-use lib.ListN.{length}
 use Rattle.record.specs.declared.Leaf.{Leaf}
 use Rattle.record.specs.declared.Record.{Record}
 use Rattle.record.specs.Order.{leastOf}
 use Rattle.path.specs.declared.sizes.Sizes.{Sizes}
 use Rattle.path.specs.Sizes.{leavesOf}
-use Rattle.path.specs.Path.{pathBucket, upFrom}
+use Rattle.path.specs.Path.{pathBucket}
 use Rattle.path.specs.Layout.{Contents}
 use Rattle.path.proofs.PathLaws.{path-root}
-use Rattle.way.specs.Least.{slotsAt, kids, mendedAt}
+use Rattle.way.specs.Least.{slotsAt, kids}
 use Rattle.work.specs.Work.{evicted, pathBuckets, rootAfter, leastAfter}
 use Rattle.tree.specs.Tree.{Tree, besideOf, contents}
 use Rattle.tree.specs.Path.{Lays, levelOf}
