@@ -15,3 +15,4 @@ pub mod InsertionLaws
 pub mod FewLaws
 pub mod FreshLaws
 pub mod HeapLaws
+pub mod FoundLaws

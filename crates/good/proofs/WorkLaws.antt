@@ -77,7 +77,7 @@ module _ (s : Sizes) (q : Leaf) (inside : q .0 < leavesOf (s .h)) (T : Tree) (li
 
   module _ (stamp : Stamp) where
     -- what has this label and stamp, is live and is found
-    named-is : (x : Record) → named q stamp x ≡ true → (isDummy x ≡ false) × (x .label ≡ q) × (x .stamp .0 ≡ stamp .0)
+    pub named-is : (x : Record) → named q stamp x ≡ true → (isDummy x ≡ false) × (x .label ≡ q) × (x .stamp .0 ≡ stamp .0)
     unfolding named
     named-is x e =
         let (real, (l, n)) = simp and-eq-true-iff at e in
