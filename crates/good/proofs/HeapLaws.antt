@@ -21,13 +21,13 @@ use Rattle.gather.specs.Shown.{siblingsShown, slotsShown, wayShown}
 use Rattle.gather.proofs.RemovalLaws.{removed-length}
 use Rattle.mend.specs.Mended.{pathWords, besideAt}
 use Rattle.judge.specs.BadParts.{stampOf}
-use Rattle.work.specs.Work.{rootAfter, leastAfter, removalBuckets, removalRoot, removalLeast, rooted, firstBuckets, secondWay, secondBeside, secondBuckets, secondSiblings}
+use Rattle.work.specs.Work.{rootAfter, leastAfter, removalBuckets, removalRoot, removalLeast, rooted, firstBuckets, secondWay, secondBeside, secondBuckets, firstSiblings, secondSiblings}
 use Rattle.rack.specs.Copy.{fetched, stored}
 use Rattle.tree.specs.Tree.{Tree, wayOf, treeOf}
 use Rattle.tree.proofs.PathFetch.{path-way}
 use Rattle.tree.proofs.Removal.{root-after-length, removal-stored-length, tree-way-length}
 use Rattle.tree.proofs.HalvesLaws.{Halves}
-use Rattle.tree.proofs.Insertion.{firstSiblings, insertion-stored-length, last-way-length}
+use Rattle.tree.proofs.Insertion.{insertion-stored-length, last-way-length}
 use Rattle.good.specs.Good.{Good}
 use Rattle.good.specs.Live.{without}
 use Rattle.good.specs.Heap.{Heap}

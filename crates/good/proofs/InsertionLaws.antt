@@ -19,7 +19,7 @@ use Rattle.way.specs.Evict.{seek}
 use Rattle.gather.specs.Shown.{slotsShown, wayShown}
 use Rattle.gather.proofs.ShownLaws.{slots-split}
 use Rattle.mend.specs.Mended.{pathWords}
-use Rattle.work.specs.Work.{rootAfter, leastAfter, firstBuckets, secondWay, secondBeside, secondBuckets, secondSiblings, rooted}
+use Rattle.work.specs.Work.{rootAfter, leastAfter, firstBuckets, secondWay, secondBeside, secondBuckets, firstSiblings, secondSiblings, rooted}
 use Rattle.damage.specs.Damaged.{firstFetched, secondFetched, pairDamaged}
 use Rattle.damage.proofs.FetchedLaws.{pair-alike}
 use Rattle.rack.specs.Copy.{fetched, stored}
@@ -28,7 +28,7 @@ use Rattle.tree.specs.Work.{inserted}
 use Rattle.tree.proofs.PathFetch.{tree-root}
 use Rattle.tree.proofs.HalvesLaws.{Halves}
 use Rattle.tree.proofs.PairFetch.{first-shows, second-shows, pair-way, pair-slots, first-beside, second-beside}
-use Rattle.tree.proofs.Insertion.{firstSiblings, insertion-stored}
+use Rattle.tree.proofs.Insertion.{insertion-stored}
 use Rattle.good.specs.Good.{Good}
 use Rattle.good.proofs.AlikeLaws.{alike-good}
 use Rattle.good.proofs.DamageLaws.{shownBy}

@@ -16,3 +16,4 @@ pub mod FewLaws
 pub mod FreshLaws
 pub mod HeapLaws
 pub mod FoundLaws
+pub mod SettledLaws

@@ -1,6 +1,6 @@
 -- An Insert on words is an Insert on the Tree: its work, done by the definitions that finish cites on what card and fetched
 -- words show, then stored by the rack, leaves the Tree that the same work on the Tree's own ways leaves. Assumes nothing.
-use Prim.Native.Nat.{ℕ, _+_, _*_, _-_, _≤_}
+use Prim.Native.Nat.{ℕ, _+_, _*_, _≤_}
 use mathlib.Core.Bool.{Bool, true, false, cond}
 use mathlib.Core.List.{List, _++_, map, append-assoc}
 use mathlib.Core.Path.{_≡_, refl, sym, ap, _∙_}
@@ -17,10 +17,10 @@ use Rattle.path.specs.Layout.{Contents, treeWords}
 use Rattle.path.specs.BucketList.{pairList}
 use Rattle.way.specs.Evict.{seek}
 use Rattle.way.specs.Least.{mendedAt}
-use Rattle.gather.specs.Shown.{siblingAt, slotsShown, wayShown}
+use Rattle.gather.specs.Shown.{slotsShown, wayShown}
 use Rattle.gather.proofs.ShownLaws.{way-length, slots-length}
 use Rattle.mend.specs.Mended.{pathWords}
-use Rattle.work.specs.Work.{slotsAfter, pathBuckets, rootAfter, leastAfter, seated, firstBuckets, secondWay, secondBeside, secondBuckets, secondSiblings, rooted}
+use Rattle.work.specs.Work.{slotsAfter, pathBuckets, rootAfter, leastAfter, seated, firstBuckets, secondWay, secondBeside, secondBuckets, firstSiblings, secondSiblings, rooted}
 use Rattle.rack.specs.Copy.{fetched, stored}
 use Rattle.tree.specs.Tree.{Tree, Alike, wayOf, belowOf, besideOf, contents, treeOf}
 use Rattle.tree.specs.Work.{worked, afterFirst, inserted}
@@ -39,10 +39,6 @@ seated-length r new w = if-room (ltb (seek isDummy r w) r)
     if-room : (b : Bool) → length (cond b (set w (seek isDummy r w) new) w) ≡ length w
     if-room true = length-set w (seek isDummy r w) new
     if-room false = refl
-
--- the siblings of an Insert's first path from level 2 on, behind both paths' whole buckets
-abbrev pub firstSiblings : Sizes → List ℕ → ℕ → Record
-firstSiblings s ws d = siblingAt (s .z) ws (2 * s .h) (d - 2)
 
 module _ (s : Sizes) (first second : Leaf) (p : Halves (s .h) first second) (new : Record) (places : List Record)
     (full : s .r ≤ length places) (least : Record) (tree words : List ℕ) (size : length tree ≡ treeWords (s .h) (s .z)) where

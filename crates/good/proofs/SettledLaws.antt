@@ -1,0 +1,79 @@
+-- A good heap through a finish, by the definitions that finish cites: what it leaves, stored by the rack, is a good heap with
+-- the live events as they should be, and it is not Damaged, by any of the four clauses. Assumes nothing.
+use Prim.Native.Nat.{ℕ, suc, _≤_, _<_}
+use mathlib.Core.Bool.{Bool, true, false, cond}
+use mathlib.Core.List.{List, [], _∷_, _++_}
+use mathlib.Core.Logic.{inl, inr}
+use mathlib.Core.Path.{_≡_}
+use mathlib.Mathlib.Data.Bool.Basic.{dichotomy}
+use lib.ListN.{length, drop}
+use Rattle.record.specs.declared.Leaf.{Leaf}
+use Rattle.record.specs.declared.Stamp.{Stamp}
+use Rattle.record.specs.declared.Record.{Record}
+use Rattle.record.specs.Standing.{isProper}
+use Rattle.path.specs.declared.sizes.Sizes.{Sizes}
+use Rattle.path.specs.Sizes.{leavesOf}
+use Rattle.path.specs.BucketList.{pathList, pairList}
+use Rattle.root.specs.Root.{rootFull}
+use Rattle.gather.specs.Removal.{named, found}
+use Rattle.mend.specs.Mended.{pathWords}
+use Rattle.judge.specs.BadParts.{stampOf}
+use Rattle.settle.specs.Left.{Left, wordsLeft, pathWay, removal, insertion, removalDamaged, insertionDamaged}
+use Rattle.rack.specs.Copy.{fetched, stored}
+use Rattle.tree.proofs.HalvesLaws.{Halves}
+use Rattle.good.specs.Live.{without}
+use Rattle.good.specs.Heap.{Heap}
+use Rattle.good.proofs.FewLaws.{heap-card}
+use Rattle.good.proofs.HeapLaws.{removal-heap, absent-heap, insertion-heap}
+use Rattle.good.proofs.FoundLaws.{heap-full, root-room, heap-path, heap-pair}
+
+module _ (s : Sizes) (t c : ℕ) (root : List Record) (least : Record) (tree words : List ℕ) (live : List Record)
+    (H : Heap s t c root least tree live) (left : t < s .t) where
+  -- ---- ExtractMin and Delete
+  module _ (q : Leaf) (inside : q .0 < leavesOf (s .h)) (stamp : Stamp) where
+    abbrev ws : List ℕ
+    ws = fetched (s .z) tree (pathList (s .h) q) words
+
+    abbrev out : Left
+    out = removal s c root ws q (named q stamp)
+
+    -- the live events afterwards
+    abbrev others : List Record
+    others = cond (out .found) (without stamp live) live
+
+    pub removal-kept : Heap s (suc t) (out .c) (out .root) (out .least) (stored (s .z) (pathList (s .h) q .whole) (wordsLeft out ws) tree) others
+    unfolding removal
+    removal-kept = elim (dichotomy (found (named q stamp) (pathWay s c root ws))) [
+      | inl gone ↦ rw gone (absent-heap s t c root least tree words live H left q inside stamp _ gone)
+      | inr there ↦ rw there (removal-heap s t c root least tree words live H left q inside stamp _ there)
+    ]
+
+    pub removal-undamaged : removalDamaged s t c root least ws q (named q stamp) ≡ false
+    unfolding removalDamaged
+    removal-undamaged =
+        rw (heap-path s t c root least tree words live H q inside, heap-card s (suc t) (out .c) (out .root) (out .least) _ others removal-kept)
+
+  -- ---- Insert
+  module _ (first second : Leaf) (p : Halves (s .h) first second) (new : Record) (stamp : new .stamp .0 ≡ t)
+      (proper : isProper (leavesOf (s .h)) (stampOf (suc t)) new ≡ true) (few : c < leavesOf (s .h)) (room : rootFull (s .r) root ≡ false) where
+    abbrev ws₂ : List ℕ
+    ws₂ = fetched (s .z) tree (pairList (s .h) first second) words
+
+    abbrev out₂ : Left
+    out₂ = insertion s c root ws₂ first second new
+
+    pub insertion-kept :
+        Heap s (suc t) (out₂ .c) (out₂ .root) (out₂ .least)
+        (stored (s .z) (pairList (s .h) first second .whole) (wordsLeft out₂ ws₂) tree) (live ++ (new ∷ []))
+    unfolding insertion
+    insertion-kept =
+        insertion-heap s t c root least tree words live H left first second p new stamp proper few _
+        (root-room (s .h) (s .z) (s .r) root ws₂ 0 room (heap-full s t c root least tree words live H))
+
+    pub insertion-undamaged : insertionDamaged s t c root least ws₂ first second new ≡ false
+    unfolding insertionDamaged
+    insertion-undamaged =
+        rw (
+          heap-pair s t c root least tree words live H first second p,
+          heap-card s (suc t) (out₂ .c) (out₂ .root) (out₂ .least) _ (live ++ (new ∷ [])) insertion-kept,
+        )
