@@ -28,8 +28,7 @@ use Rattle.damage.specs.Damage.{sound, pathSound, siblingsSound, kidsShown, lea
 use Rattle.damage.specs.Damaged.{Fetched, pathDamaged}
 use Rattle.damage.proofs.DamagedLaws.{PathGood, not-damaged}
 use Rattle.tree.specs.Tree.{Tree, wayOf, slotsOn, besideOf}
-use Rattle.tree.specs.Path.{levelOf}
-use Rattle.tree.proofs.JoinLaws.{joined-levels}
+use Rattle.tree.proofs.JoinLaws.{levelOf, joined-levels}
 use Rattle.good.specs.Good.{childrenIn, Good}
 use Rattle.good.proofs.OnceLaws.{once-test}
 use Rattle.good.proofs.PartsLaws.{path-inside, way-sized, housed-parts}

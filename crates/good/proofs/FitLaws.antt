@@ -19,7 +19,7 @@ use Rattle.record.specs.Standing.{dummy, isDummy}
 use Rattle.way.specs.Evict.{seek, fits, movedTo, pull, pulls, evictUp, evict}
 use Rattle.way.specs.Least.{slotsAt}
 use Rattle.way.proofs.EvictLaws.{length-pulls}
-use Rattle.tree.specs.Path.{levelOf}
+use Rattle.tree.proofs.JoinLaws.{levelOf}
 
 -- what a search finds passes
 pub seek-passes : (f : Record → Bool) (n : ℕ) (w : List Record) → n ≤ length w → seek f n w < n → f (getD w (seek f n w) dummy) ≡ true

@@ -22,9 +22,9 @@ use Rattle.way.specs.Evict.{seek}
 use Rattle.work.specs.Work.{seated}
 use Rattle.damage.specs.Damaged.{pairDamaged}
 use Rattle.damage.proofs.DamagedLaws.{pair-not-damaged}
-use Rattle.tree.specs.Tree.{Tree, InTree, wayOf, slotsOn, belowOf}
+use Rattle.tree.specs.Tree.{Tree, InTree, wayOf, slotsOn}
 use Rattle.tree.specs.Work.{afterFirst, inserted}
-use Rattle.tree.proofs.ShownLaws.{way-below}
+use Rattle.tree.proofs.ShownLaws.{belowOf, way-below}
 use Rattle.tree.proofs.HalvesLaws.{Halves, first-inside, first-child, second-child, second-off}
 use Rattle.good.specs.Good.{Good}
 use Rattle.good.proofs.OnceLaws.{shares-sym, Alone, Once, none, more, once-test, test-once, once-append, append-once}

@@ -23,7 +23,7 @@ use Rattle.work.specs.Work.{rootAfter, leastAfter, firstBuckets, secondWay, sec
 use Rattle.damage.specs.Damaged.{firstFetched, secondFetched, pairDamaged}
 use Rattle.damage.proofs.FetchedLaws.{pair-alike}
 use Rattle.rack.specs.Copy.{fetched, stored}
-use Rattle.tree.specs.Tree.{Tree, wayOf, belowOf, treeOf}
+use Rattle.tree.specs.Tree.{Tree, wayOf, treeOf}
 use Rattle.tree.specs.Work.{inserted}
 use Rattle.tree.proofs.PathFetch.{tree-root}
 use Rattle.tree.proofs.HalvesLaws.{Halves}
@@ -33,6 +33,7 @@ use Rattle.good.specs.Good.{Good}
 use Rattle.good.proofs.AlikeLaws.{alike-good}
 use Rattle.good.proofs.DamageLaws.{shownBy}
 use Rattle.good.proofs.InsertLaws.{inserted-good, good-pair}
+use Rattle.tree.proofs.ShownLaws.{belowOf}
 
 module _ (s : Sizes) (first second : Leaf) (p : Halves (s .h) first second) (root : List Record) (full : s .r ≤ length root) (least : Record)
     (tree words : List ℕ) (size : length tree ≡ treeWords (s .h) (s .z)) (live : List Record) (next : Stamp)

@@ -21,10 +21,11 @@ use Rattle.path.specs.Layout.{Contents}
 use Rattle.path.proofs.PathLaws.{path-band, path-parent, path-in-tree, sibling-off}
 use Rattle.way.specs.Least.{slotsAt, inOrder, kids}
 use Rattle.tree.specs.Tree.{Tree, InTree, besideOf}
-use Rattle.tree.specs.Path.{OffPath, Lays, levelOf}
-use Rattle.tree.proofs.PathLaws.{path-or, child-off}
+use Rattle.tree.specs.Path.{OffPath}
+use Rattle.tree.proofs.PathLaws.{Lays, path-or, child-off}
 use Rattle.tree.proofs.WorkLaws.{bucketAfter}
 use Rattle.good.specs.Good.{childrenIn, LeastTrue}
+use Rattle.tree.proofs.JoinLaws.{levelOf}
 
 -- ---- children
 module _ (h : ℕ) (T : Tree) (b : Bucket) where

@@ -29,9 +29,9 @@ use Rattle.way.proofs.EvictLaws.{length-evict}
 use Rattle.way.proofs.KeptLaws.{evict-keeps}
 use Rattle.way.proofs.LeastLaws.{length-slots}
 use Rattle.tree.specs.Tree.{Tree, InTree, slotsOn, wayOf, joined}
-use Rattle.tree.specs.Path.{OnPath, OffPath, Lays, levelOf}
-use Rattle.tree.proofs.JoinLaws.{Sized, level-joined, joined-level, joined-length, joined-levels, levels-joined}
-use Rattle.tree.proofs.PathLaws.{path-or, level-apart}
+use Rattle.tree.specs.Path.{OnPath, OffPath}
+use Rattle.tree.proofs.JoinLaws.{levelOf, Sized, level-joined, joined-level, joined-length, joined-levels, levels-joined}
+use Rattle.tree.proofs.PathLaws.{Lays, path-or, level-apart}
 use Rattle.good.specs.Good.{width, Housed}
 use Rattle.good.proofs.OnceLaws.{Shares, shares-sym, Across, Once, once-test, test-once, once-joined, joined-once, joined-across, perm-mem, perm-once}
 use Rattle.good.proofs.FitLaws.{Fitting, evict-fits, fitting-level, level-fitting}

@@ -1,12 +1,11 @@
 -- A good heap through a finish, by the definitions that finish cites: what it leaves, stored by the rack, is a good heap with
 -- the live events as they should be, and it is not Damaged, by any of the four clauses. Assumes nothing.
-use Prim.Native.Nat.{ℕ, suc, _≤_, _<_}
-use mathlib.Core.Bool.{Bool, true, false, cond}
+use Prim.Native.Nat.{ℕ, suc, _<_}
+use mathlib.Core.Bool.{true, false, cond}
 use mathlib.Core.List.{List, [], _∷_, _++_}
 use mathlib.Core.Logic.{inl, inr}
 use mathlib.Core.Path.{_≡_}
 use mathlib.Mathlib.Data.Bool.Basic.{dichotomy}
-use lib.ListN.{length, drop}
 use Rattle.record.specs.declared.Leaf.{Leaf}
 use Rattle.record.specs.declared.Stamp.{Stamp}
 use Rattle.record.specs.declared.Record.{Record}
@@ -16,7 +15,6 @@ use Rattle.path.specs.Sizes.{leavesOf}
 use Rattle.path.specs.BucketList.{pathList, pairList}
 use Rattle.root.specs.Root.{rootFull}
 use Rattle.gather.specs.Removal.{named, found}
-use Rattle.mend.specs.Mended.{pathWords}
 use Rattle.judge.specs.BadParts.{stampOf}
 use Rattle.settle.specs.Left.{Left, wordsLeft, pathWay, removal, insertion, removalDamaged, insertionDamaged}
 use Rattle.rack.specs.Copy.{fetched, stored}

@@ -22,7 +22,7 @@ use Rattle.gather.proofs.ShownLaws.{way-length, slots-length}
 use Rattle.mend.specs.Mended.{pathWords}
 use Rattle.work.specs.Work.{slotsAfter, pathBuckets, rootAfter, leastAfter, seated, firstBuckets, secondWay, secondBeside, secondBuckets, firstSiblings, secondSiblings, rooted}
 use Rattle.rack.specs.Copy.{fetched, stored}
-use Rattle.tree.specs.Tree.{Tree, Alike, wayOf, belowOf, besideOf, contents, treeOf}
+use Rattle.tree.specs.Tree.{Tree, Alike, wayOf, besideOf, contents, treeOf}
 use Rattle.tree.specs.Work.{worked, afterFirst, inserted}
 use Rattle.tree.proofs.PathLaws.{laid-root, laid-on, laid-off}
 use Rattle.tree.proofs.FetchLaws.{fetched-long}
@@ -31,6 +31,7 @@ use Rattle.tree.proofs.HalvesLaws.{Halves, first-inside, first-off}
 use Rattle.tree.proofs.PairWork.{first-buckets, second-way, second-buckets, second-root, second-least}
 use Rattle.tree.proofs.PairFetch.{pair-wholes, pair-leasts, pair-whole-count, pair-way, pair-slots, first-beside, second-beside}
 use Rattle.tree.proofs.PairStore.{path-words-append, pair-stored, pair-stored-length}
+use Rattle.tree.proofs.ShownLaws.{belowOf}
 
 pub seated-length : (r : ℕ) (new : Record) (w : List Record) → length (seated r new w) ≡ length w
 unfolding seated

@@ -12,7 +12,6 @@ use lib.Seq.{take-add, take-all, take-at, drop-at}
 use Rattle.record.specs.declared.Record.{Record}
 use Rattle.way.specs.Least.{slotsAt}
 use Rattle.tree.specs.Tree.{joined}
-use Rattle.tree.specs.Path.{levelOf}
 
 -- ---- records of a way
 module _ (f : ℕ → List Record) {x : Record} where
@@ -37,6 +36,11 @@ joined-same f g zero same = same 0 (omega arith)
 joined-same f g (suc h) same = rw (joined-same f g h (λ d l. same d (omega arith)), same (suc h) (omega arith))
 
 -- ---- levels of r slots, then z at each
+-- the slots of a way at each level, the root's at level 0
+unfoldable pub levelOf : ℕ → ℕ → List Record → ℕ → List Record
+levelOf r z w zero = take r w
+levelOf r z w (suc d) = slotsAt r z w (suc d)
+
 pub record Sized (r z h : ℕ) (f : ℕ → List Record) : Type 0 where
   pub root : length (f 0) ≡ r
   pub below : (d : ℕ) → 1 ≤ d → d ≤ h → length (f d) ≡ z

@@ -18,8 +18,8 @@ use Rattle.path.proofs.ListLaws.{length-path, length-siblings}
 use Rattle.gather.specs.Shown.{wholeAt, siblingAt, slotsShown, wayShown}
 use Rattle.rack.specs.Copy.{fetched, AllStand}
 use Rattle.rack.specs.BucketAt.{bucketAt}
-use Rattle.tree.specs.Tree.{Tree, treeOf, wayOf, belowOf, besideOf}
-use Rattle.tree.proofs.ShownLaws.{Shows, way-shown, below-shown}
+use Rattle.tree.specs.Tree.{Tree, treeOf, wayOf, besideOf}
+use Rattle.tree.proofs.ShownLaws.{belowOf, Shows, way-shown, below-shown}
 use Rattle.tree.proofs.FetchLaws.{whole-fetched, sibling-fetched}
 use Rattle.tree.proofs.PathFetch.{path-stands, siblings-stand, tree-root, tree-below, map-at}
 use Rattle.tree.proofs.HalvesLaws.{Halves, first-inside}

@@ -17,12 +17,13 @@ use Rattle.path.proofs.PathLaws.{path-root}
 use Rattle.way.specs.Least.{kids, mendedAt, mended}
 use Rattle.work.specs.Work.{evicted, slotsAfter, pathBuckets, rootAfter, leastAfter, seated, firstBuckets, secondWay, topFirst, secondBeside, secondBuckets}
 use Rattle.work.proofs.BesideLaws.{kids-same, mended-same}
-use Rattle.tree.specs.Tree.{Tree, wayOf, slotsOn, belowOf, besideOf}
-use Rattle.tree.specs.Path.{Lays, levelOf}
+use Rattle.tree.specs.Tree.{Tree, wayOf, slotsOn, besideOf}
 use Rattle.tree.specs.Work.{afterFirst}
-use Rattle.tree.proofs.ShownLaws.{way-below}
+use Rattle.tree.proofs.ShownLaws.{belowOf, way-below}
 use Rattle.tree.proofs.WorkLaws.{bucketAfter, worked-lays}
 use Rattle.tree.proofs.HalvesLaws.{Halves, first-inside, second-sibling, second-off, second-sibling-off}
+use Rattle.tree.proofs.PathLaws.{Lays}
+use Rattle.tree.proofs.JoinLaws.{levelOf}
 
 -- ---- a path's buckets look at siblings below level 1
 map-levels : (f g : ℕ → Contents) (a n : ℕ) → ((d : ℕ) → a ≤ d → d < a + n → f d ≡ g d) → map f (upFrom a n) ≡ map g (upFrom a n)

@@ -52,6 +52,11 @@ child-off h q inside b c low half off o = go (o .level) (o .within) (o .is)
         let up : number b ≡ number (pathBucket h q d) = sym half ∙ ap (λ (a : Bucket). number a / 2) e ∙ sym (path-parent h q d l) in
         off (record { level = d; within = omega arith; is = ap bucket up })
 
+-- ---- a Tree with another way: U holds f d in the path's bucket at level d, the root's is level 0, and all else as T does
+pub record Lays (h : ℕ) (q : Leaf) (f : ℕ → Contents) (T U : Tree) : Type 0 where
+  pub on : (d : ℕ) → d ≤ h → U (pathBucket h q d) ≡ f d
+  pub off : (b : Bucket) → OffPath h q b → U b ≡ T b
+
 -- ---- one bucket replaced
 module _ (b : Bucket) (c : Contents) (T : Tree) where
   pub put-here : put b c T b ≡ c

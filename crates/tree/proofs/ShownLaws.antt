@@ -1,7 +1,7 @@
 -- What fetched words show of a path is what a Tree holds there, for any words and any Tree that agree bucket by bucket.
 -- Assumes nothing.
 use Prim.Native.Nat.{ℕ, zero, suc, _+_, _≤_, _<_}
-use mathlib.Core.List.{List, _++_, append-assoc, append-nil}
+use mathlib.Core.List.{List, [], _++_, append-assoc, append-nil}
 use mathlib.Core.Path.{_≡_, refl, sym, ap, _∙_}
 use native.Mathlib.Omega.{arith}
 use lib.ListN.{take}
@@ -9,7 +9,12 @@ use Rattle.record.specs.declared.Leaf.{Leaf}
 use Rattle.record.specs.declared.Record.{Record}
 use Rattle.path.specs.Path.{pathBucket}
 use Rattle.gather.specs.Shown.{wholeAt, slotsShown, wayShown}
-use Rattle.tree.specs.Tree.{Tree, joined, slotsOn, wayOf, belowOf}
+use Rattle.tree.specs.Tree.{Tree, joined, slotsOn, wayOf}
+
+-- the slots of a way at levels 1 to d
+unfoldable pub belowOf : ℕ → Leaf → Tree → ℕ → List Record
+belowOf h q T zero = []
+belowOf h q T (suc d) = belowOf h q T d ++ slotsOn h q T (suc d)
 
 -- the path's buckets stand in the words from the i-th on
 abbrev pub Shows : ℕ → ℕ → Leaf → List ℕ → ℕ → Tree → Type 0

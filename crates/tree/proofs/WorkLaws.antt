@@ -15,9 +15,9 @@ use Rattle.path.proofs.PathLaws.{path-root}
 use Rattle.way.specs.Least.{slotsAt, kids}
 use Rattle.work.specs.Work.{evicted, pathBuckets, rootAfter, leastAfter}
 use Rattle.tree.specs.Tree.{Tree, besideOf, contents}
-use Rattle.tree.specs.Path.{Lays, levelOf}
 use Rattle.tree.specs.Work.{worked}
-use Rattle.tree.proofs.PathLaws.{laid-root, laid-on, laid-off}
+use Rattle.tree.proofs.PathLaws.{Lays, laid-root, laid-on, laid-off}
+use Rattle.tree.proofs.JoinLaws.{levelOf}
 
 -- the path's buckets, the root's at level 0, once the way has become `after`
 abbrev pub bucketAfter : Sizes → Leaf → (ℕ → Record) → List Record → ℕ → Contents

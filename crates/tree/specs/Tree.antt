@@ -34,11 +34,6 @@ slotsOn h q T d = T (pathBucket h q d) .slots
 abbrev pub wayOf : ℕ → Leaf → Tree → List Record
 wayOf h q T = joined (slotsOn h q T) h
 
--- its slots at levels 1 to d
-unfoldable pub belowOf : ℕ → Leaf → Tree → ℕ → List Record
-belowOf h q T zero = []
-belowOf h q T (suc d) = belowOf h q T d ++ slotsOn h q T (suc d)
-
 -- the least records beside it, the sibling's at each level
 abbrev pub besideOf : ℕ → Leaf → Tree → ℕ → Record
 besideOf h q T d = T (siblingOf (pathBucket h q d)) .least
