@@ -24,12 +24,12 @@ use Rattle.tree.specs.Tree.{Tree, InTree, besideOf}
 use Rattle.tree.specs.Path.{OffPath}
 use Rattle.tree.proofs.PathLaws.{Lays, path-or, child-off}
 use Rattle.tree.proofs.WorkLaws.{bucketAfter}
-use Rattle.good.specs.Good.{childrenIn, LeastTrue}
+use Rattle.good.specs.Good.{bothChildren, childrenIn, LeastTrue}
 use Rattle.tree.proofs.JoinLaws.{levelOf}
 
 -- ---- children
 module _ (h : ℕ) (T : Tree) (b : Bucket) where
-  pub children-inner : number b < leavesOf h → childrenIn h T b ≡ T (lowerChild b) .least ∷ T (upperChild b) .least ∷ []
+  pub children-inner : number b < leavesOf h → childrenIn h T b ≡ bothChildren T b
   unfolding childrenIn
   children-inner l = rw (lt-ltb (number b) (leavesOf h) l)
 
@@ -39,11 +39,11 @@ module _ (h : ℕ) (T : Tree) (b : Bucket) where
 
 -- a bucket and its sibling are their parent's children, the lower first
 pub children-in-order : (T : Tree) (p b : Bucket) → 2 ≤ number b → number p ≡ number b / 2
-    → inOrder b (T b .least) (T (siblingOf b) .least) ≡ T (lowerChild p) .least ∷ T (upperChild p) .least ∷ []
+    → inOrder b (T b .least) (T (siblingOf b) .least) ≡ bothChildren T p
 unfolding inOrder siblingOf
 children-in-order T p b l e = (elim (eqb (number b % 2) 0) as (λ c. eqb (number b % 2) 0 ≡ c
     → cond c (T b .least ∷ T (cond c (bucket (number b + 1)) (bucket (number b - 1))) .least ∷ []) (T (cond c (bucket (number b + 1)) (bucket (number b - 1))) .least ∷ T b .least ∷ [])
-    ≡ T (lowerChild p) .least ∷ T (upperChild p) .least ∷ []) [
+    ≡ bothChildren T p) [
       | true ↦ λ i.
           let even = eqb-true (number b % 2) 0 i in
           let low : 2 * number p ≡ number b = omega arith in
