@@ -1,0 +1,3 @@
+-- Laws of card and rack through a run that crates above cite.
+pub mod CallLaws
+pub mod FinishLaws

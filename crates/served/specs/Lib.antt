@@ -1,0 +1,2 @@
+-- What a reader must believe of card and rack through a run.
+pub mod Ready
