@@ -2,7 +2,8 @@
 -- Assumes nothing.
 use Prim.Native.Nat.{ℕ, zero, suc, _+_, _*_, _<_}
 use mathlib.Core.Bool.{Bool, true, false, true≢false}
-use mathlib.Core.List.{List, [], _∷_, _++_, List·Memᴰ, List·Memᴰ·head, List·Memᴰ·tail, List·Memᴰ·cases-cons, List·Memᴰ·append-cases, List·Memᴰ·eq-of-singleton, Memᴰ·append-left, Memᴰ·append-right, Memᴰ·cast}
+use mathlib.Core.List.{List, [], _∷_, _++_, List·Memᴰ, List·Memᴰ·head}
+use mathlib.Core.List.{List·Memᴰ·tail, List·Memᴰ·cases-cons, List·Memᴰ·append-cases, List·Memᴰ·eq-of-singleton, Memᴰ·append-left, Memᴰ·append-right, Memᴰ·cast}
 use mathlib.Core.Logic.{⊎-elim, _⊎_, inl, inr}
 use mathlib.Core.Path.{_≡_, refl, sym, _∙_}
 use native.Mathlib.Decide.{ℕ-discrete}
@@ -45,7 +46,11 @@ set-others {x} (y ∷ w) zero l (more f o) m =
     ⊎-elim inl (λ i. inr (List·Memᴰ·tail i, λ s. f x i s)) (List·Memᴰ·cases-cons m)
 set-others {x} (y ∷ w) (suc k) l (more f o) m =
     ⊎-elim
-    (λ e. inr (List·Memᴰ·head e, λ s. f (getD w k dummy) (at-place w k (omega arith)) (record { one = rw e at (s .two); two = s .one; stamp = rw e at (sym (s .stamp)) })))
+    (λ e. inr (
+      List·Memᴰ·head e,
+      λ s. f (getD w k dummy) (at-place w k (omega arith))
+          (record { one = rw e at (s .two); two = s .one; stamp = rw e at (sym (s .stamp)) }),
+    ))
     (λ i. ⊎-elim inl (λ r. inr (List·Memᴰ·tail (r .0), r .1)) (set-others w k (omega arith) o i))
     (List·Memᴰ·cases-cons m)
 

@@ -49,11 +49,13 @@ few-reals live (more {x} {xs} f o) all = elim (dichotomy (isDummy x)) [
 ]
 
 -- ---- a least record as it should be
-odd-live : (leaves : ℕ) (next : Stamp) (c : ℕ) (x : Record) → isDummy x ≡ false → mayStand leaves next x ≡ true → 1 ≤ c → oddLeast leaves next c x ≡ false
+odd-live : (leaves : ℕ) (next : Stamp) (c : ℕ) (x : Record) → isDummy x ≡ false → mayStand leaves next x ≡ true → 1 ≤ c
+    → oddLeast leaves next c x ≡ false
 unfolding oddLeast
 odd-live leaves next c x real stands l = rw (real, ne-eqb c 0 (omega arith), stands)
 
-odd-none : (leaves : ℕ) (next : Stamp) (c : ℕ) (x : Record) → isDummy x ≡ true → mayStand leaves next x ≡ true → c ≡ 0 → oddLeast leaves next c x ≡ false
+odd-none : (leaves : ℕ) (next : Stamp) (c : ℕ) (x : Record) → isDummy x ≡ true → mayStand leaves next x ≡ true → c ≡ 0
+    → oddLeast leaves next c x ≡ false
 unfolding oddLeast
 odd-none leaves next c x void stands e = rw (void, le-ltb 0 c (omega arith), stands)
 

@@ -77,7 +77,8 @@ module _ (fit : ℕ → Record → Bool) (r z h : ℕ) where
               → Fitting (cond b (movedTo w (seek (fit (suc d)) lo w) (lo + k)) w)
           if-moved false e = all
           if-moved true e =
-              let l = ltb-true (seek (fit (suc d)) lo w) lo (and-eq-true-iff (isDummy (getD w (lo + k) dummy)) (ltb (seek (fit (suc d)) lo w) lo) .0 e .1) in
+              let l = ltb-true (seek (fit (suc d)) lo w) lo
+              (and-eq-true-iff (isDummy (getD w (lo + k) dummy)) (ltb (seek (fit (suc d)) lo w) lo) .0 e .1) in
               moved-fits (seek (fit (suc d)) lo w) l (seek-passes (fit (suc d)) lo w (omega arith) l)
 
     pulls-fit : (w : List Record) (k : ℕ) → k ≤ z → lo + z ≤ length w → Fitting w → Fitting (pulls (fit (suc d)) lo k w)

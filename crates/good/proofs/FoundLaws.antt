@@ -95,14 +95,17 @@ module _ (s : Sizes) (t c : ℕ) (root : List Record) (least : Record) (tree wor
           | inr t″ ↦
               let x = getD live (seek (named q stamp) (length live) live) dummy in
               let m : List·Memᴰ x live = at-place live _ (ltb-true _ _ t″) in
-              let n = named-is s q inside T live (stampOf t) (stampOf t) (omega arith) (H .good) stamp x (found-passes (named q stamp) live dummy t″) in
-              absurd (true≢false (sym (rw (← way-is) at (live-found s q inside T live (stampOf t) (stampOf t) (omega arith) (H .good) stamp x m (n .1) (n .2))) ∙ f′))
+              let n = named-is s q inside T live (stampOf t) (stampOf t) (omega arith) (H .good) stamp x
+              (found-passes (named q stamp) live dummy t″) in
+              absurd (true≢false (sym (rw (← way-is) at
+              (live-found s q inside T live (stampOf t) (stampOf t) (omega arith) (H .good) stamp x m (n .1) (n .2))) ∙ f′))
         ]
       ]
 
   -- ExtractMin's record is there
   pub extract-found : (l : 1 ≤ c)
-      → found (named (least .label) (least .stamp)) (wayShown (s .h) (s .z) (s .r) root (fetched (s .z) tree (pathList (s .h) (least .label)) words) 0) ≡ true
+      → found (named (least .label) (least .stamp))
+      (wayShown (s .h) (s .z) (s .r) root (fetched (s .z) tree (pathList (s .h) (least .label)) words) 0) ≡ true
   extract-found l =
       rw (way-is (least .label) (least-inside l))
       (live-found s (least .label) (least-inside l) T live (stampOf t) (stampOf t) (omega arith) (H .good) (least .stamp) least

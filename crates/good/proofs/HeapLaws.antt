@@ -21,7 +21,8 @@ use Rattle.gather.specs.Shown.{siblingsShown, slotsShown, wayShown}
 use Rattle.gather.proofs.RemovalLaws.{removed-length}
 use Rattle.mend.specs.Mended.{pathWords, besideAt}
 use Rattle.judge.specs.BadParts.{stampOf}
-use Rattle.work.specs.Work.{rootAfter, leastAfter, removalBuckets, removalRoot, removalLeast, rooted, firstBuckets, secondWay, secondBeside, secondBuckets, firstSiblings, secondSiblings}
+use Rattle.work.specs.Work.{rootAfter, leastAfter, removalBuckets, removalRoot, removalLeast, rooted}
+use Rattle.work.specs.Work.{firstBuckets, secondWay, secondBeside, secondBuckets, firstSiblings, secondSiblings}
 use Rattle.rack.specs.Copy.{fetched, stored}
 use Rattle.tree.specs.Tree.{Tree, wayOf, treeOf}
 use Rattle.tree.proofs.PathFetch.{path-way}
@@ -134,7 +135,8 @@ module _ (s : Sizes) (t c : ℕ) (root : List Record) (least : Record) (tree wor
     pub insertion-heap : seek isDummy (s .r) way₁ < s .r
         → Heap s (suc t) (suc c) (rooted (s .r) (rootAfter s second beside last) root) (leastAfter s second beside last)
         (stored (s .z) (pairList (s .h) first second .whole)
-        (pathWords (firstBuckets s first second new b₁ b₂ way₁ slots₂ ++ secondBuckets s first second new b₁ b₂ way₁ slots₂) ++ more) tree) (live ++ (new ∷ []))
+        (pathWords (firstBuckets s first second new b₁ b₂ way₁ slots₂ ++ secondBuckets s first second new b₁ b₂ way₁ slots₂) ++ more) tree)
+        (live ++ (new ∷ []))
     insertion-heap room =
         let wide = root-after-length s second beside last (last-way-length s first second p new root full least tree words (H .words)) in
         record {
@@ -147,6 +149,7 @@ module _ (s : Sizes) (t c : ℕ) (root : List Record) (least : Record) (tree wor
           past = rw (rooted-past (s .r) (rootAfter s second beside last) root wide) (H .past);
           words = insertion-stored-length s first second p new root full least tree words (H .words) more;
           good =
-              insertion-good s first second p root full least tree words (H .words) live (stampOf t) (H .good) new (stampOf (suc t)) (omega arith) stamp
+              insertion-good s first second p root full least tree words (H .words) live (stampOf t) (H .good) new (stampOf (suc t))
+              (omega arith) stamp
               proper room more;
         }

@@ -64,7 +64,8 @@ module _ (s : Sizes) (first second : Leaf) (p : Halves (s .h) first second) (T :
 
     pub first-good : Good s later (afterFirst s first new T) (live ++ (new ∷ []))
     first-good =
-        worked-good s first in₁ T live with-new (seated (s .r) new (wayOf (s .h) first T)) later (g .housed) (λ b t o. g .leasts b t) all-proper all-once
+        worked-good s first in₁ T live with-new (seated (s .r) new (wayOf (s .h) first T)) later (g .housed)
+        (λ b t o. g .leasts b t) all-proper all-once
         (parts-inserted s first T live (wayOf (s .h) first T) parts₁ new room (proper-not-dummy _ later new proper) (live-real s next T live g) fresh)
 
     pub inserted-good : Good s later (inserted s first second new T) (live ++ (new ∷ []))
@@ -84,7 +85,8 @@ module _ (s : Sizes) (first second : Leaf) (p : Halves (s .h) first second) (T :
   pub pair-once : Once (wayOf (s .h) first T ++ belowOf (s .h) second T (s .h))
   pair-once =
       let parts₂ = housed-parts s second (p .most) T live (g .housed) (live-label s next T live g) in
-      let below = append-once (slotsOn (s .h) second T 0) (belowOf (s .h) second T (s .h)) (rw (way-below (s .h) second T) at (parts₂ .once)) .second in
+      let below = append-once (slotsOn (s .h) second T 0) (belowOf (s .h) second T (s .h))
+      (rw (way-below (s .h) second T) at (parts₂ .once)) .second in
       once-append (parts₁ .once) below (λ x y i j n.
       let r = below-level (s .h) y j in
       parts₁ .across (pathBucket (s .h) second (r .0)) (path-inside (s .h) second (p .most) (r .0) (r .2))

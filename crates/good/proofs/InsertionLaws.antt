@@ -101,7 +101,8 @@ module _ (s : Sizes) (first second : Leaf) (p : Halves (s .h) first second) (roo
     abbrev after : Tree
     after =
         treeOf (s .z)
-        (take (s .r) (rooted (s .r) (rootAfter s second (secondBeside s first second new b₁ b₂ way slots₂) (secondWay s first second new b₁ b₂ way slots₂)) root))
+        (take (s .r) (rooted (s .r) (rootAfter s second (secondBeside s first second new b₁ b₂ way slots₂)
+        (secondWay s first second new b₁ b₂ way slots₂)) root))
         (leastAfter s second (secondBeside s first second new b₁ b₂ way slots₂) (secondWay s first second new b₁ b₂ way slots₂))
         (stored (s .z) (pairList (s .h) first second .whole)
         (pathWords (firstBuckets s first second new b₁ b₂ way slots₂ ++ secondBuckets s first second new b₁ b₂ way slots₂) ++ more) tree)

@@ -42,7 +42,8 @@ pub children-in-order : (T : Tree) (p b : Bucket) → 2 ≤ number b → number 
     → inOrder b (T b .least) (T (siblingOf b) .least) ≡ bothChildren T p
 unfolding inOrder siblingOf
 children-in-order T p b l e = (elim (eqb (number b % 2) 0) as (λ c. eqb (number b % 2) 0 ≡ c
-    → cond c (T b .least ∷ T (cond c (bucket (number b + 1)) (bucket (number b - 1))) .least ∷ []) (T (cond c (bucket (number b + 1)) (bucket (number b - 1))) .least ∷ T b .least ∷ [])
+    → cond c (T b .least ∷ T (cond c (bucket (number b + 1)) (bucket (number b - 1))) .least ∷ [])
+    (T (cond c (bucket (number b + 1)) (bucket (number b - 1))) .least ∷ T b .least ∷ [])
     ≡ bothChildren T p) [
       | true ↦ λ i.
           let even = eqb-true (number b % 2) 0 i in
@@ -85,7 +86,8 @@ module _ (s : Sizes) (q : Leaf) (inside : q .0 < leavesOf (s .h)) (T U : Tree) (
         let order = children-in-order U (pathBucket (s .h) q d) (pathBucket (s .h) q (suc d)) low (path-parent (s .h) q d next) in
         let own = on-least (suc d) next in
         let other = sibling-kept (suc d) (omega arith) next in
-        rw (e, n, ← own, ← other) (order ∙ sym (children-inner (s .h) U (pathBucket (s .h) q d) (omega (arith, band, pow-mono {i = suc d} {j = s .h} next))))
+        rw (e, n, ← own, ← other) (order
+        ∙ sym (children-inner (s .h) U (pathBucket (s .h) q d) (omega (arith, band, pow-mono {i = suc d} {j = s .h} next))))
   ]
 
   on-true : (d : ℕ) → d ≤ s .h → LeastTrue (s .h) U (pathBucket (s .h) q d)
@@ -103,6 +105,7 @@ module _ (s : Sizes) (q : Leaf) (inside : q .0 < leavesOf (s .h)) (T U : Tree) (
         rw (lays .off b off, children-inner (s .h) U b inner, low, up) (rw (children-inner (s .h) T b inner) at true′)
   ]
 
-  pub mended-true : ((b : Bucket) → InTree (s .h) b → OffPath (s .h) q b → LeastTrue (s .h) T b) → (b : Bucket) → InTree (s .h) b → LeastTrue (s .h) U b
+  pub mended-true : ((b : Bucket) → InTree (s .h) b → OffPath (s .h) q b → LeastTrue (s .h) T b) → (b : Bucket) → InTree (s .h) b
+      → LeastTrue (s .h) U b
   mended-true old b t =
       ⊎-elim (λ o. rw (o .is) (on-true (o .level) (o .within))) (λ o. off-true b t o (old b t o)) (path-or (s .h) q b)

@@ -76,5 +76,6 @@ module _ (s : Stamp) where
   without-length [] m e = absurd (List·Memᴰ·not-nil m)
   without-length (x ∷ xs) m e =
       ⊎-elim (λ i. rw (without-here x xs i))
-      (λ n. rw (without-later x xs n) (⊎-elim (λ i. absurd (n (ap (λ (r : Record). r .stamp .0) (sym i) ∙ e))) (λ k. ap suc (without-length xs k e)) (List·Memᴰ·cases-cons m)))
+      (λ n. rw (without-later x xs n)
+      (⊎-elim (λ i. absurd (n (ap (λ (r : Record). r .stamp .0) (sym i) ∙ e))) (λ k. ap suc (without-length xs k e)) (List·Memᴰ·cases-cons m)))
       (stamp-or x xs)

@@ -2,7 +2,8 @@
 -- least of all live events. Assumes nothing.
 use Prim.Native.Nat.{ℕ, zero, suc, _+_, _*_, _/_, _≤_, _<_}
 use mathlib.Core.Bool.{true, false, true≢false}
-use mathlib.Core.List.{List, [], _∷_, _++_, List·Memᴰ, List·Memᴰ·head, List·Memᴰ·tail, List·Memᴰ·cases-cons, List·Memᴰ·not-nil, List·Memᴰ·append-cases, List·Memᴰ·eq-of-singleton, Memᴰ·append-left, Memᴰ·append-right, Memᴰ·cast}
+use mathlib.Core.List.{List, [], _∷_, _++_, List·Memᴰ, List·Memᴰ·head, List·Memᴰ·tail}
+use mathlib.Core.List.{List·Memᴰ·cases-cons, List·Memᴰ·not-nil, List·Memᴰ·append-cases, List·Memᴰ·eq-of-singleton, Memᴰ·append-left, Memᴰ·append-right, Memᴰ·cast}
 use mathlib.Core.Logic.{⊎-elim, _⊎_, inl, inr}
 use mathlib.Core.Path.{_≡_, refl, sym, ap, _∙_}
 use native.Mathlib.Decide.{decLe}
@@ -68,7 +69,8 @@ module _ (s : Sizes) (next : Stamp) (T : Tree) (live : List Record) (g : Good s 
 
   -- from its children's
   module _ (b : Bucket) (t : InTree (s .h) b) (below : (c : Bucket) → InTree (s .h) c → number b < number c → Noted c (T c .least)) where
-    child : (c : Bucket) → number c < 2 * leavesOf (s .h) → number b < number c → number c / 2 ≡ number b → T b .least ≡ T c .least → Noted b (T b .least)
+    child : (c : Bucket) → number c < 2 * leavesOf (s .h) → number b < number c → number c / 2 ≡ number b → T b .least ≡ T c .least
+        → Noted b (T b .least)
     child c most later half e =
         noted-child b c (omega (arith, t .some)) half (T b .least) e (below c (record { some = omega (arith, t .some); most = most }) later)
 
@@ -83,7 +85,8 @@ module _ (s : Sizes) (next : Stamp) (T : Tree) (live : List Record) (g : Good s 
     noted-here : Noted b (T b .least)
     noted-here =
         ⊎-elim (λ e. inl (g .leasts b t ∙ e))
-        (λ m. ⊎-elim (λ i. g .housed .stands b t (T b .least) (Memᴰ·cast (g .leasts b t) i)) (children _ (g .leasts b t)) (List·Memᴰ·append-cases (T b .slots) m))
+        (λ m. ⊎-elim (λ i. g .housed .stands b t (T b .least) (Memᴰ·cast (g .leasts b t) i)) (children _ (g .leasts b t))
+        (List·Memᴰ·append-cases (T b .slots) m))
         (smallest-in noLater (T b .slots ++ childrenIn (s .h) T b))
 
   noted : (fuel : ℕ) (b : Bucket) → InTree (s .h) b → 2 * leavesOf (s .h) ≤ number b + fuel → Noted b (T b .least)
@@ -104,7 +107,8 @@ module _ (s : Sizes) (next : Stamp) (T : Tree) (live : List Record) (g : Good s 
       → noLater (T b .least) (T c .least) ≡ true
   child-later b c t l e =
       rw (g .leasts b t) (smallest-low noLater ordered (Memᴰ·append-right (T b .slots) (rw (children-inner (s .h) T b l)
-      (⊎-elim (λ i. List·Memᴰ·head (ap (λ (a : Bucket). T a .least) i)) (λ i. List·Memᴰ·tail (List·Memᴰ·head (ap (λ (a : Bucket). T a .least) i))) e))))
+      (⊎-elim (λ i. List·Memᴰ·head (ap (λ (a : Bucket). T a .least) i))
+      (λ i. List·Memᴰ·tail (List·Memᴰ·head (ap (λ (a : Bucket). T a .least) i))) e))))
 
   climb : (fuel n : ℕ) → n ≤ fuel → 1 ≤ n → n < 2 * leavesOf (s .h) → noLater top (T (bucket n) .least) ≡ true
   climb zero n f l m = absurd (omega arith)

@@ -2,7 +2,8 @@
 -- after one became the dummy or came in. Assumes nothing.
 use Prim.Native.Nat.{ℕ, zero, suc, _≤_, _<_}
 use mathlib.Core.Bool.{false, not, true≢false}
-use mathlib.Core.List.{List, [], _∷_, _++_, List·Memᴰ, List·Memᴰ·head, List·Memᴰ·tail, List·Memᴰ·cases-cons, List·Memᴰ·not-nil, List·Memᴰ·append-cases, Memᴰ·append-left, Memᴰ·append-right}
+use mathlib.Core.List.{List, [], _∷_, _++_, List·Memᴰ, List·Memᴰ·head}
+use mathlib.Core.List.{List·Memᴰ·tail, List·Memᴰ·cases-cons, List·Memᴰ·not-nil, List·Memᴰ·append-cases, Memᴰ·append-left, Memᴰ·append-right}
 use mathlib.Core.List.{List·Permᴰ, List·Permᴰ·nil, List·Permᴰ·cons, List·Permᴰ·swap, List·Permᴰ·trans, Permᴰ·symm}
 use mathlib.Core.Logic.{⊎-elim, _⊎_, inl, inr}
 use mathlib.Core.Path.{_≡_, refl, sym, ap, _∙_}
@@ -63,7 +64,8 @@ test-once [] e = none
 test-once (x ∷ xs) e = elim (dichotomy (isDummy x)) [
   | inl f ↦ elim (dichotomy (not (every (λ y. not (bears (x .stamp) y)) xs))) [
     | inl b ↦
-        more (λ y m s. true≢false (sym (rw (bears-own (x .stamp) y (s .two) (sym (s .stamp))) at (every-each (λ y. not (bears (x .stamp) y)) (not-false _ b) m))))
+        more (λ y m s. true≢false (sym
+        (rw (bears-own (x .stamp) y (s .two) (sym (s .stamp))) at (every-each (λ y. not (bears (x .stamp) y)) (not-false _ b) m))))
         (test-once xs (sym (twice-later x xs b) ∙ e))
     | inr b ↦ absurd (true≢false (sym (twice-here x xs f b) ∙ e))
   ]

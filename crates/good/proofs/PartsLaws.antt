@@ -155,7 +155,8 @@ module _ (s : Sizes) (q : Leaf) (inside : q .0 < leavesOf (s .h)) (T U : Tree) (
   whole = levels-joined (s .r) (s .z) w (s .h) (P .long)
 
   on-slots : (b : Bucket) (o : OnPath (s .h) q b) → U b .slots ≡ level (o .level)
-  on-slots b o = ap (λ (c : Bucket). U c .slots) (o .is) ∙ ap (λ (c : Contents). c .slots) (lays .on (o .level) (o .within)) ∙ slots (o .level) (o .within)
+  on-slots b o = ap (λ (c : Bucket). U c .slots) (o .is) ∙ ap (λ (c : Contents). c .slots) (lays .on (o .level) (o .within))
+      ∙ slots (o .level) (o .within)
 
   off-slots : (b : Bucket) → OffPath (s .h) q b → U b .slots ≡ T b .slots
   off-slots b o = ap (λ (c : Contents). c .slots) (lays .off b o)
@@ -170,7 +171,8 @@ module _ (s : Sizes) (q : Leaf) (inside : q .0 < leavesOf (s .h)) (T U : Tree) (
       length-slots (s .r) (s .z) w (suc d) (omega arith) (omega (arith, P .long, mul-le-mul-left {m = suc d} {n = s .h} (s .z) l))
       ∙ sym (other-width s _ (path-in-tree (s .h) q inside (suc d) (omega arith) l .0))
 
-  way-stands : (d : ℕ) → d ≤ s .h → (x : Record) → List·Memᴰ x (level d) → (x ≡ dummy) ⊎ (List·Memᴰ x live × OnPath (s .h) (x .label) (pathBucket (s .h) q d))
+  way-stands : (d : ℕ) → d ≤ s .h → (x : Record) → List·Memᴰ x (level d)
+      → (x ≡ dummy) ⊎ (List·Memᴰ x live × OnPath (s .h) (x .label) (pathBucket (s .h) q d))
   unfolding fits
   way-stands d l x m =
       ⊎-elim inl (λ i. on d l m i) (P .stands x (rw whole at (level-joined level d (s .h) l m)))

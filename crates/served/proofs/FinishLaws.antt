@@ -69,7 +69,8 @@ module _ (k : Card) (tree words : List ℕ) (live : List Record) (r : Ready k tr
     extract-there = extract-found (k .sizes) (k .t) (k .c) (k .root) (k .least) tree words live H some
 
     -- "replaces the root's least record .. by the dummy"
-    pub extract-ready : Ready (cardLeft k out) (stored (k .sizes .z) (pathList (k .sizes .h) (m .label) .whole) (wordsLeft out ws) tree) (without (m .stamp) live)
+    pub extract-ready : Ready (cardLeft k out) (stored (k .sizes .z) (pathList (k .sizes .h) (m .label) .whole) (wordsLeft out ws) tree)
+        (without (m .stamp) live)
     extract-ready =
         ready-left out _ (without (m .stamp) live)
         (rw extract-there at
@@ -142,7 +143,8 @@ module _ (k : Card) (tree words : List ℕ) (live : List Record) (r : Ready k tr
 
     pub insert-undamaged : insertionDamaged (k .sizes) (k .t) (k .c) (k .root) (k .least) ws″ first second new ≡ false
     insert-undamaged =
-        insertion-undamaged (k .sizes) (k .t) (k .c) (k .root) (k .least) tree words live H spare first second halves new refl proper few (accepts .slot)
+        insertion-undamaged (k .sizes) (k .t) (k .c) (k .root) (k .least) tree words live H spare first second halves new refl proper few
+        (accepts .slot)
 
     pub insert-ready :
         Ready (cardLeft k out″) (stored (k .sizes .z) (pairList (k .sizes .h) first second .whole) (wordsLeft out″ ws″) tree) (live ++ (new ∷ []))

@@ -92,13 +92,15 @@ module _ (k : Card) (tree : List ℕ) (live : List Record) (r : Ready k tree liv
           Fetches (k .sizes .h) (k .sizes .z) tree (laid l places) (counts l .whole) (counts l .least) words answer after
           → (answerNumber answer ≡ 0) × (after ≡ fetched (k .sizes .z) tree l words)
       ready-fetched =
-          list-fetched (k .sizes .h) (k .sizes .z) tree words l places tree-range (r .heap .words) (list-inside (k .waiting) (r .waiting)) room answer after
+          list-fetched (k .sizes .h) (k .sizes .z) tree words l places tree-range (r .heap .words)
+          (list-inside (k .waiting) (r .waiting)) room answer after
 
       pub ready-stored :
           Stores (k .sizes .h) (k .sizes .z) tree (laid l places) (counts l .whole) (counts l .least) words answer after
           → (answerNumber answer ≡ 0) × (after ≡ stored (k .sizes .z) (l .whole) words tree)
       ready-stored =
-          list-stored (k .sizes .h) (k .sizes .z) tree words l places tree-range (r .heap .words) (list-inside (k .waiting) (r .waiting)) room answer after
+          list-stored (k .sizes .h) (k .sizes .z) tree words l places tree-range (r .heap .words)
+          (list-inside (k .waiting) (r .waiting)) room answer after
 
 -- words once fetched into, and words once finished, are no fewer
 over-length : (xs ws : List ℕ) → length ws ≤ length (xs ++ drop (length xs) ws)

@@ -29,7 +29,8 @@ first-of (r ∷ rs) = refl
 -- a bucket's least record is the first of its records
 least-first : (z : ℕ) (tree : List ℕ) (b : Bucket) → bucketAt z tree b .least ≡ getD (records (drop (bucketStart z b) tree)) 0 dummy
 least-first z tree b =
-    first-of (records (bucketPart z tree b)) ∙ rw (records-take (drop (bucketStart z b) tree) (z + 1), getD-take (z + 1) (records (drop (bucketStart z b) tree)) 0 dummy (omega arith))
+    first-of (records (bucketPart z tree b))
+    ∙ rw (records-take (drop (bucketStart z b) tree) (z + 1), getD-take (z + 1) (records (drop (bucketStart z b) tree)) 0 dummy (omega arith))
 
 module _ (z : ℕ) (tree : List ℕ) (l : BucketList) (words : List ℕ)
     (wholes : AllStand z (length tree) (l .whole)) (leasts : AllStand z (length tree) (l .least)) where
@@ -53,8 +54,10 @@ module _ (z : ℕ) (tree : List ℕ) (l : BucketList) (words : List ℕ)
       let at : m * bucketWords z + i * recordWords ≡ 4 * (m * (z + 1) + i) = omega arith in
       let none : m * (z + 1) + i + 0 ≡ m * (z + 1) + i = omega arith in
       let read : take 1 (drop (m * (z + 1) + i) (records ws)) ≡ take 1 (records (drop (bucketStart z b) tree)) =
-      rw (← records-drop ws (m * (z + 1) + i), ← records-take _ 1, ← records-take _ 1, ← at) (ap records (fetched-least z tree l words wholes leasts i n)) in
+      rw (← records-drop ws (m * (z + 1) + i), ← records-take _ 1, ← records-take _ 1, ← at)
+      (ap records (fetched-least z tree l words wholes leasts i n)) in
       let first = ap (λ (rs : List Record). getD rs 0 dummy) read in
-      let left = getD-take 1 (drop (m * (z + 1) + i) (records ws)) 0 dummy (omega arith) ∙ (rw none at (getD-drop (m * (z + 1) + i) (records ws) 0 dummy)) in
+      let left = getD-take 1 (drop (m * (z + 1) + i) (records ws)) 0 dummy (omega arith)
+      ∙ (rw none at (getD-drop (m * (z + 1) + i) (records ws) 0 dummy)) in
       let right = getD-take 1 (records (drop (bucketStart z b) tree)) 0 dummy (omega arith) in
       sym left ∙ first ∙ right ∙ sym (least-first z tree b)

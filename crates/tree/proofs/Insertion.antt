@@ -20,7 +20,8 @@ use Rattle.way.specs.Least.{mendedAt}
 use Rattle.gather.specs.Shown.{slotsShown, wayShown}
 use Rattle.gather.proofs.ShownLaws.{way-length, slots-length}
 use Rattle.mend.specs.Mended.{pathWords}
-use Rattle.work.specs.Work.{slotsAfter, pathBuckets, rootAfter, leastAfter, seated, firstBuckets, secondWay, secondBeside, secondBuckets, firstSiblings, secondSiblings, rooted}
+use Rattle.work.specs.Work.{slotsAfter, pathBuckets, rootAfter, leastAfter, seated, firstBuckets}
+use Rattle.work.specs.Work.{secondWay, secondBeside, secondBuckets, firstSiblings, secondSiblings, rooted}
 use Rattle.rack.specs.Copy.{fetched, stored}
 use Rattle.tree.specs.Tree.{Tree, Alike, wayOf, besideOf, contents, treeOf}
 use Rattle.tree.specs.Work.{worked, afterFirst, inserted}
@@ -105,7 +106,8 @@ module _ (s : Sizes) (first second : Leaf) (p : Halves (s .h) first second) (new
   way₂-length =
       let n = root-after-length s first b₁ seat seat-length in
       let m = ap length (sym slots-are) ∙ slots-length (s .z) ws (s .h) (s .h) given in
-      ap length (sym (second-way s first second p new T b₁ b₂ same₁ same₂)) ∙ length-append (rootAfter s first b₁ seat) (belowOf (s .h) second T (s .h)) ∙ omega (arith, n, m)
+      ap length (sym (second-way s first second p new T b₁ b₂ same₁ same₂))
+      ∙ length-append (rootAfter s first b₁ seat) (belowOf (s .h) second T (s .h)) ∙ omega (arith, n, m)
 
   -- what each path's buckets become
   abbrev f : ℕ → Contents
@@ -119,7 +121,8 @@ module _ (s : Sizes) (first second : Leaf) (p : Halves (s .h) first second) (new
 
   stored-both : (more : List ℕ)
       → Alike (s .h) (treeOf (s .z) (rootAfter s second own₂ way₂) (leastAfter s second own₂ way₂)
-      (stored (s .z) (pairList (s .h) first second .whole) (pathWords (map f (upFrom 1 (s .h))) ++ (pathWords (map g (upFrom 1 (s .h))) ++ more)) tree))
+      (stored (s .z) (pairList (s .h) first second .whole)
+      (pathWords (map f (upFrom 1 (s .h))) ++ (pathWords (map g (upFrom 1 (s .h))) ++ more)) tree))
       (inserted s first second new T)
   unfolding worked pathBuckets
   stored-both more =
@@ -136,7 +139,8 @@ module _ (s : Sizes) (first second : Leaf) (p : Halves (s .h) first second) (new
   -- the words that finish leaves, stored: behind both paths' buckets any words may stand
   pub insertion-stored : (more : List ℕ)
       → Alike (s .h)
-      (treeOf (s .z) (take (s .r) (rooted (s .r) (rootAfter s second (secondBeside s first second new b₁ b₂ way slots₂) (secondWay s first second new b₁ b₂ way slots₂)) places))
+      (treeOf (s .z) (take (s .r) (rooted (s .r)
+      (rootAfter s second (secondBeside s first second new b₁ b₂ way slots₂) (secondWay s first second new b₁ b₂ way slots₂)) places))
       (leastAfter s second (secondBeside s first second new b₁ b₂ way slots₂) (secondWay s first second new b₁ b₂ way slots₂))
       (stored (s .z) (pairList (s .h) first second .whole)
       (pathWords (firstBuckets s first second new b₁ b₂ way slots₂ ++ secondBuckets s first second new b₁ b₂ way slots₂) ++ more) tree))

@@ -72,7 +72,14 @@ joined-levels r z h f n (suc d) l =
     let e : h ≡ suc (d + (h - suc d)) = omega arith in
     let s = joined-splits f d (h - suc d) in
     let b : suc d - 1 ≡ d = omega arith in
-    rw (e, s .1, b, drop-at (joined f d) _ (r + z * d) (joined-length r z h f n d (omega arith)), take-at (f (suc d)) _ z (n .below (suc d) (omega arith) l))
+    rw (
+      e,
+      s .1,
+      b,
+      drop-at (joined f d) _ (r + z * d) (joined-length r z h f n d (omega arith)),
+      take-at (f (suc d)) _ z
+          (n .below (suc d) (omega arith) l),
+    )
 
 -- ---- any list as long as a way
 module _ (r z : ℕ) (w : List Record) where

@@ -114,24 +114,28 @@ module _ (h z r : ℕ) (first second : Leaf) (p : Halves h first second) (slots 
   sibling-place q d low high =
       let n = length-path h q 2 in
       let e : 2 + (d - 2) ≡ d = omega arith in
-      map-at siblingOf (path h q 2) (d - 2) (bucket 0) (bucket 0) (omega arith) ∙ ap siblingOf (rw e at (path-at h q 2 (d - 2) (bucket 0) (omega arith)))
+      map-at siblingOf (path h q 2) (d - 2) (bucket 0) (bucket 0) (omega arith)
+      ∙ ap siblingOf (rw e at (path-at h q 2 (d - 2) (bucket 0) (omega arith)))
 
   pub first-beside : (d : ℕ) → 2 ≤ d → d ≤ h
       → siblingAt z (fetched z tree (pairList h first second) words) (2 * h) (d - 2) ≡ besideOf h first (treeOf z (take r slots) least tree) d
   unfolding pairList
   first-beside d low high =
       let n = length-siblings h first 2 in
-      let at = at-first (map siblingOf (path h first 2)) (map siblingOf (path h second 2)) (bucket 0) (d - 2) (omega arith) ∙ sibling-place first d low high in
+      let at = at-first (map siblingOf (path h first 2)) (map siblingOf (path h second 2)) (bucket 0) (d - 2) (omega arith)
+      ∙ sibling-place first d low high in
       let t = sibling-in-tree h first (first-inside h first second p) d (omega arith) high .0 in
       sibling (d - 2) (omega arith) ∙ ap (λ (b : Bucket). bucketAt z tree b .least) at
       ∙ ap (λ (c : Contents). c .least) (in-T _ t)
 
   pub second-beside : (d : ℕ) → 2 ≤ d → d ≤ h
-      → siblingAt z (fetched z tree (pairList h first second) words) (2 * h) (h - 1 + (d - 2)) ≡ besideOf h second (treeOf z (take r slots) least tree) d
+      → siblingAt z (fetched z tree (pairList h first second) words) (2 * h) (h - 1 + (d - 2))
+      ≡ besideOf h second (treeOf z (take r slots) least tree) d
   unfolding pairList
   second-beside d low high =
       let n : length (map siblingOf (path h first 2)) ≡ h - 1 = length-siblings h first 2 ∙ omega arith in
-      let at = at-second (map siblingOf (path h first 2)) (map siblingOf (path h second 2)) (bucket 0) (h - 1) (d - 2) n ∙ sibling-place second d low high in
+      let at = at-second (map siblingOf (path h first 2)) (map siblingOf (path h second 2)) (bucket 0) (h - 1) (d - 2) n
+      ∙ sibling-place second d low high in
       let t = sibling-in-tree h second (p .most) d (omega arith) high .0 in
       sibling (h - 1 + (d - 2)) (omega arith) ∙ ap (λ (b : Bucket). bucketAt z tree b .least) at
       ∙ ap (λ (c : Contents). c .least) (in-T _ t)

@@ -73,7 +73,8 @@ module _ (h z : ℕ) (first second : Leaf) (p : Halves h first second) (tree : L
       let b = length-buckets z g 1 h eachG in
       rw (count, length-append fs gs, length-append (pathWords (map g (upFrom 1 h))) more, a, b) (omega arith)
 
-  pub pair-stored-length : length (stored z (pairList h first second .whole) (pathWords (map f (upFrom 1 h)) ++ (pathWords (map g (upFrom 1 h)) ++ more)) tree) ≡ treeWords h z
+  pub pair-stored-length : length
+      (stored z (pairList h first second .whole) (pathWords (map f (upFrom 1 h)) ++ (pathWords (map g (upFrom 1 h)) ++ more)) tree) ≡ treeWords h z
   pair-stored-length = stored-length z (l .whole) words tree stand enough ∙ size
 
   each : (i : ℕ) → i < 2 * h → bucketAt z after (getD (l .whole) i (bucket 0)) ≡ contentsAt z words i
@@ -84,7 +85,8 @@ module _ (h z : ℕ) (first second : Leaf) (p : Halves h first second) (tree : L
   on-first d low high =
       let e : 1 + (d - 1) ≡ d = omega arith in
       let n = length-path h first 1 in
-      let at = at-first (path h first 1) (path h second 1) (bucket 0) (d - 1) (omega arith) ∙ (rw e at (path-at h first 1 (d - 1) (bucket 0) (omega arith))) in
+      let at = at-first (path h first 1) (path h second 1) (bucket 0) (d - 1) (omega arith)
+      ∙ (rw e at (path-at h first 1 (d - 1) (bucket 0) (omega arith))) in
       ap (bucketAt z after) (sym at) ∙ each (d - 1) (omega arith) ∙ part-holds z f 1 h (d - 1) gs eachF (omega arith) ∙ ap f e
 
   on-second : (d : ℕ) → 1 ≤ d → d ≤ h → bucketAt z after (pathBucket h second d) ≡ g d
@@ -92,7 +94,8 @@ module _ (h z : ℕ) (first second : Leaf) (p : Halves h first second) (tree : L
   on-second d low high =
       let e : 1 + (d - 1) ≡ d = omega arith in
       let n : length (path h first 1) ≡ h = length-path h first 1 ∙ omega arith in
-      let at = at-second (path h first 1) (path h second 1) (bucket 0) h (d - 1) n ∙ (rw e at (path-at h second 1 (d - 1) (bucket 0) (omega arith))) in
+      let at = at-second (path h first 1) (path h second 1) (bucket 0) h (d - 1) n
+      ∙ (rw e at (path-at h second 1 (d - 1) (bucket 0) (omega arith))) in
       ap (bucketAt z after) (sym at) ∙ each (h + (d - 1)) (omega arith) ∙ contents-behind z h (d - 1) fs gs (length-buckets z f 1 h eachF)
       ∙ part-holds z g 1 h (d - 1) more eachG (omega arith) ∙ ap g e
 
@@ -125,7 +128,8 @@ module _ (h z : ℕ) (first second : Leaf) (p : Halves h first second) (tree : L
         (λ o₂. off-both b low (t .most) o₁ o₂ ∙ sym (offs b o₁ o₂ ∙ tree-below z slots least tree b low)) (path-or h second b))
         (path-or h first b)
 
-    pub pair-stored : Alike h (treeOf z slots′ least′ (stored z (pairList h first second .whole) (pathWords (map f (upFrom 1 h)) ++ (pathWords (map g (upFrom 1 h)) ++ more)) tree)) U
+    pub pair-stored : Alike h (treeOf z slots′ least′
+        (stored z (pairList h first second .whole) (pathWords (map f (upFrom 1 h)) ++ (pathWords (map g (upFrom 1 h)) ++ more)) tree)) U
     pair-stored b t =
         ⊎-elim (λ e. rw e (tree-root z slots′ least′ after ∙ sym top))
         (λ n.

@@ -125,4 +125,8 @@ module _ (s : Sizes) (first second : Leaf) (p : Halves (s .h) first second) (new
       ≡ leastAfter s second (besideOf (s .h) second T₁) (wayOf (s .h) second T₁)
   unfolding leastAfter
   second-least =
-      rw (second-way, kids-same (s .h) second slotsLeft (secondBeside s first second new b₁ b₂ way slots₂) (besideOf (s .h) second T₁) second-beside (s .h) (omega arith))
+      rw (
+        second-way,
+        kids-same (s .h) second slotsLeft (secondBeside s first second new b₁ b₂ way slots₂)
+            (besideOf (s .h) second T₁) second-beside (s .h) (omega arith),
+      )

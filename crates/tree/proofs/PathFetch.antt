@@ -115,7 +115,8 @@ module _ (h z r : ℕ) (q : Leaf) (inside : q .0 < leavesOf h) (slots : List Rec
       let at = rw e at (path-at h q 1 j (bucket 0) (omega arith)) in
       let below = sibling-in-tree h q inside (suc j) (omega arith) l .0 in
       (rw n at (sibling-fetched z tree (pathList h q) words wholes leasts j (omega arith)))
-      ∙ rw (map-at siblingOf (path h q 1) j (bucket 0) (bucket 0) (omega arith), at) (sym (ap (λ (c : Contents). c .least) (tree-below z (take r slots) least tree _ below)))
+      ∙ rw (map-at siblingOf (path h q 1) j (bucket 0) (bucket 0) (omega arith), at)
+      (sym (ap (λ (c : Contents). c .least) (tree-below z (take r slots) least tree _ below)))
 
   -- as the work on a path is given them
   pub path-beside : (d : ℕ) → 1 ≤ d → d ≤ h

@@ -84,7 +84,8 @@ module _ (h z : ℕ) (q : Leaf) (inside : q .0 < leavesOf h) (tree : List ℕ) (
         (λ n. let other : number b ≡ 1 → ⊥ = λ i. n (ap bucket i) in
         let low : 2 ≤ number b = omega (arith, t .some) in
         tree-below z slots′ least′ after b low ∙ ⊎-elim
-        (λ o. on n o) (λ o. off-path b low (t .most) o ∙ sym (tree-below z slots least tree b low) ∙ sym (laid-off h q inside f (contents least′ slots′) T b o))
+        (λ o. on n o) (λ o. off-path b low (t .most) o ∙ sym (tree-below z slots least tree b low)
+        ∙ sym (laid-off h q inside f (contents least′ slots′) T b o))
         (path-or h q b))
         (same-or b root)
       where

@@ -82,7 +82,8 @@ module _ (s : Sizes) (q : Leaf) (inside : q .0 < leavesOf (s .h)) (root : List R
   module _ (f : Record → Bool) where
     pub removal-buckets : removalBuckets s q f sibs way ≡ pathBuckets s q (besideOf (s .h) q T) (removed f (wayOf (s .h) q T))
     unfolding pathBuckets
-    removal-buckets = rw way-is (mended-same (s .h) q (slotsAfter s q (besideOf (s .h) q T) (removed f (wayOf (s .h) q T))) (besideAt sibs) (besideOf (s .h) q T) beside-is)
+    removal-buckets = rw way-is (mended-same (s .h) q (slotsAfter s q (besideOf (s .h) q T) (removed f (wayOf (s .h) q T))) (besideAt sibs)
+        (besideOf (s .h) q T) beside-is)
 
     pub removal-root : removalRoot s q f sibs way ≡ rootAfter s q (besideOf (s .h) q T) (removed f (wayOf (s .h) q T))
     unfolding rootAfter
@@ -90,7 +91,11 @@ module _ (s : Sizes) (q : Leaf) (inside : q .0 < leavesOf (s .h)) (root : List R
 
     pub removal-least : removalLeast s q f sibs way ≡ leastAfter s q (besideOf (s .h) q T) (removed f (wayOf (s .h) q T))
     unfolding leastAfter
-    removal-least = rw (way-is, kids-same (s .h) q (slotsAfter s q (besideOf (s .h) q T) (removed f (wayOf (s .h) q T))) (besideAt sibs) (besideOf (s .h) q T) beside-is (s .h) (omega arith))
+    removal-least = rw (
+      way-is,
+      kids-same (s .h) q (slotsAfter s q (besideOf (s .h) q T) (removed f (wayOf (s .h) q T))) (besideAt sibs)
+          (besideOf (s .h) q T) beside-is (s .h) (omega arith),
+    )
 
     gone : List Record
     gone = removed f (wayOf (s .h) q T)
