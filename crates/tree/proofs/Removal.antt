@@ -83,7 +83,7 @@ module _ (s : Sizes) (q : Leaf) (inside : q .0 < leavesOf (s .h)) (root : List R
     pub removal-buckets : removalBuckets s q f sibs way ≡ pathBuckets s q (besideOf (s .h) q T) (removed f (wayOf (s .h) q T))
     unfolding pathBuckets
     removal-buckets = rw way-is (mended-same (s .h) q (slotsAfter s q (besideOf (s .h) q T) (removed f (wayOf (s .h) q T))) (besideAt sibs)
-        (besideOf (s .h) q T) beside-is)
+        (besideOf (s .h) q T) 1 beside-is (omega arith))
 
     pub removal-root : removalRoot s q f sibs way ≡ rootAfter s q (besideOf (s .h) q T) (removed f (wayOf (s .h) q T))
     unfolding rootAfter
@@ -94,7 +94,7 @@ module _ (s : Sizes) (q : Leaf) (inside : q .0 < leavesOf (s .h)) (root : List R
     removal-least = rw (
       way-is,
       kids-same (s .h) q (slotsAfter s q (besideOf (s .h) q T) (removed f (wayOf (s .h) q T))) (besideAt sibs)
-          (besideOf (s .h) q T) beside-is (s .h) (omega arith),
+          (besideOf (s .h) q T) 1 beside-is (s .h) (omega arith),
     )
 
     gone : List Record
