@@ -28,6 +28,7 @@ use Rattle.tree.specs.Tree.{Tree, InTree, treeOf}
 use Rattle.tree.proofs.PathLaws.{same-or}
 use Rattle.tree.proofs.PathFetch.{tree-root, tree-below}
 use Rattle.good.specs.Good.{width, childrenIn, Good}
+use Rattle.good.specs.Live.{Ascending}
 use Rattle.good.specs.Heap.{Heap}
 use Rattle.good.proofs.OnceLaws.{Once, none, more, once-test, dummy-shares}
 use Rattle.good.proofs.PartsLaws.{other-width}
@@ -118,6 +119,7 @@ module _ (s : Sizes) where
         count = refl;
         most = omega arith;
         begun = omega arith;
+        order = Ascending.none;
         places = length-replicate 64 dummy;
         past = rw (drop-dummies 64 (s .r) few) (each-every isDummy _ (λ x m. ap isDummy (dummies (64 - s .r) m) ∙ is-dummy));
         words = fresh-length (s .h) (s .z);

@@ -30,8 +30,10 @@ use Rattle.tree.proofs.Removal.{root-after-length, removal-stored-length, tree-
 use Rattle.tree.proofs.HalvesLaws.{Halves}
 use Rattle.tree.proofs.Insertion.{insertion-stored-length, last-way-length}
 use Rattle.good.specs.Good.{Good}
-use Rattle.good.specs.Live.{without}
+use Rattle.good.specs.Live.{without, Ascending}
 use Rattle.good.specs.Heap.{Heap}
+use Rattle.good.proofs.LowLaws.{live-stamp}
+use Rattle.good.proofs.LiveLaws.{without-ascending, append-ascending}
 use Rattle.good.proofs.WorkLaws.{taken-count}
 use Rattle.good.proofs.RemovalLaws.{removal-good, removal-absent}
 use Rattle.good.proofs.InsertionLaws.{insertion-good}
@@ -75,7 +77,7 @@ module _ (s : Sizes) (t c : ℕ) (root : List Record) (least : Record) (tree wor
         (removed-length f way ∙ ap length way-is ∙ tree-way-length s q inside root full least tree words (H .words))
 
     -- the parts that hang neither on the count nor on the live events
-    module _ (c′ : ℕ) (live′ : List Record) (count : c′ ≡ length live′) (fewer : c′ ≤ c)
+    module _ (c′ : ℕ) (live′ : List Record) (count : c′ ≡ length live′) (fewer : c′ ≤ c) (order : Ascending live′)
         (good : Good s (stampOf (suc t)) (treeOf (s .z) (take (s .r) (rooted (s .r) (removalRoot s q f sibs way) root)) (removalLeast s q f sibs way)
         (stored (s .z) (pathList (s .h) q .whole) (pathWords (removalBuckets s q f sibs way) ++ more) tree)) live′) where
       removal-parts : Heap s (suc t) c′ (rooted (s .r) (removalRoot s q f sibs way) root) (removalLeast s q f sibs way)
@@ -87,6 +89,7 @@ module _ (s : Sizes) (t c : ℕ) (root : List Record) (least : Record) (tree wor
             count = count;
             most = omega (arith, H .most);
             begun = omega (arith, H .begun);
+            order = order;
             places = rooted-length (s .r) (removalRoot s q f sibs way) root wide full ∙ H .places;
             past = rw (rooted-past (s .r) (removalRoot s q f sibs way) root wide) (H .past);
             words = removal-stored-length s q inside root full least tree words (H .words) f more;
@@ -98,14 +101,14 @@ module _ (s : Sizes) (t c : ℕ) (root : List Record) (least : Record) (tree wor
         (stored (s .z) (pathList (s .h) q .whole) (pathWords (removalBuckets s q f sibs way) ++ more) tree) (without stamp live)
     removal-heap there =
         let n = taken-count s q inside T live (stampOf t) (stampOf (suc t)) (omega arith) (H .good) stamp (rw way-is at there) in
-        removal-parts (c - 1) (without stamp live) (omega (arith, H .count)) (omega arith)
+        removal-parts (c - 1) (without stamp live) (omega (arith, H .count)) (omega arith) (without-ascending stamp (H .order))
         (removal-good s q inside root full least tree words (H .words) live (stampOf t) (H .good) stamp (stampOf (suc t)) (omega arith) more there)
 
     pub absent-heap : found (named q stamp) way ≡ false
         → Heap s (suc t) c (rooted (s .r) (removalRoot s q f sibs way) root) (removalLeast s q f sibs way)
         (stored (s .z) (pathList (s .h) q .whole) (pathWords (removalBuckets s q f sibs way) ++ more) tree) live
     absent-heap gone =
-        removal-parts c live (H .count) (omega arith)
+        removal-parts c live (H .count) (omega arith) (H .order)
         (removal-absent s q inside root full least tree words (H .words) live (stampOf t) (H .good) stamp (stampOf (suc t)) (omega arith) more gone)
 
   -- ---- Insert
@@ -145,6 +148,7 @@ module _ (s : Sizes) (t c : ℕ) (root : List Record) (least : Record) (tree wor
           count = rw length-append (omega (arith, H .count));
           most = few;
           begun = omega (arith, H .begun);
+          order = append-ascending new (H .order) (λ x m. omega (arith, live-stamp s (stampOf t) T live (H .good) x m));
           places = rooted-length (s .r) (rootAfter s second beside last) root wide full ∙ H .places;
           past = rw (rooted-past (s .r) (rootAfter s second beside last) root wide) (H .past);
           words = insertion-stored-length s first second p new root full least tree words (H .words) more;

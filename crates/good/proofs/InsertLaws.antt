@@ -13,7 +13,7 @@ use Rattle.record.specs.declared.Stamp.{Stamp}
 use Rattle.record.specs.declared.Record.{Record}
 use Rattle.record.specs.Standing.{isDummy, isProper}
 use Rattle.record.specs.Many.{every, stampTwice}
-use Rattle.record.proofs.StandingLaws.{proper-true, proper-later, proper-not-dummy, known-below}
+use Rattle.record.proofs.StandingLaws.{proper-later, proper-not-dummy}
 use Rattle.record.proofs.ManyLaws.{each-every}
 use Rattle.path.specs.declared.sizes.Sizes.{Sizes}
 use Rattle.path.specs.Sizes.{leavesOf}
@@ -31,7 +31,7 @@ use Rattle.good.proofs.OnceLaws.{shares-sym, Alone, Once, none, more, o
 use Rattle.good.proofs.PartsLaws.{Parts, path-inside, housed-parts}
 use Rattle.good.proofs.ChangeLaws.{parts-inserted}
 use Rattle.good.proofs.LeastLaws.{children-inner}
-use Rattle.good.proofs.LowLaws.{live-proper, live-real, live-label}
+use Rattle.good.proofs.LowLaws.{live-proper, live-real, live-label, live-stamp}
 use Rattle.good.proofs.WorkLaws.{worked-good}
 use Rattle.good.proofs.DamageLaws.{shownBy, path-good, way-root}
 
@@ -47,7 +47,7 @@ module _ (s : Sizes) (first second : Leaf) (p : Halves (s .h) first second) (T :
   module _ (new : Record) (later : Stamp) (since : next .0 ≤ later .0) (stamp : new .stamp .0 ≡ next .0)
       (proper : isProper (leavesOf (s .h)) later new ≡ true) (room : seek isDummy (s .r) (wayOf (s .h) first T) < s .r) where
     fresh : Alone new live
-    fresh y m n = omega (arith, n .stamp, known-below next (y .stamp) (proper-true _ next y (live-proper s next T live g y m) .stamp))
+    fresh y m n = omega (arith, n .stamp, live-stamp s next T live g y m)
 
     abbrev with-new : List Record
     with-new = live ++ (new ∷ [])

@@ -1,7 +1,8 @@
--- One of the live events goes: which are left, how many, and that no stamp stands twice. Assumes nothing.
-use Prim.Native.Nat.{suc}
+-- One of the live events goes: which are left, how many, in which order, and that no stamp stands twice; and one comes in
+-- last. Assumes nothing.
+use Prim.Native.Nat.{suc, _<_}
 use mathlib.Core.Bool.{false}
-use mathlib.Core.List.{List, [], _∷_, List·Memᴰ, List·Memᴰ·head, List·Memᴰ·tail, List·Memᴰ·cases-cons, List·Memᴰ·not-nil}
+use mathlib.Core.List.{List, [], _∷_, _++_, List·Memᴰ, List·Memᴰ·head, List·Memᴰ·tail, List·Memᴰ·cases-cons, List·Memᴰ·not-nil, List·Memᴰ·eq-of-singleton, List·Memᴰ·append-cases}
 use mathlib.Core.Logic.{⊎-elim, _⊎_, inl, inr}
 use mathlib.Core.Path.{_≡_, refl, sym, ap, _∙_}
 use mathlib.Mathlib.Data.Bool.Basic.{dichotomy}
@@ -11,7 +12,7 @@ use borrow.Author.Tests.{eqb-true, eqb-false, eq-eqb, ne-eqb}
 use Rattle.record.specs.declared.Stamp.{Stamp}
 use Rattle.record.specs.declared.Record.{Record}
 use Rattle.record.specs.Standing.{isDummy}
-use Rattle.good.specs.Live.{without}
+use Rattle.good.specs.Live.{without, Ascending}
 use Rattle.good.proofs.OnceLaws.{Once, more}
 
 module _ (s : Stamp) where
@@ -79,3 +80,20 @@ module _ (s : Stamp) where
       (λ n. rw (without-later x xs n)
       (⊎-elim (λ i. absurd (n (ap (λ (r : Record). r .stamp .0) (sym i) ∙ e))) (λ k. ap suc (without-length xs k e)) (List·Memᴰ·cases-cons m)))
       (stamp-or x xs)
+
+  -- and in the same order
+  pub without-ascending : {w : List Record} → Ascending w → Ascending (without s w)
+  unfolding without
+  without-ascending Ascending.none = Ascending.none
+  without-ascending (Ascending.more {x} {xs} f a) =
+      ⊎-elim (λ i. rw (without-here x xs i) a)
+      (λ n. rw (without-later x xs n) (Ascending.more (λ y m. f y (without-in xs m)) (without-ascending a))) (stamp-or x xs)
+
+-- one that comes in last has the largest stamp
+pub append-ascending : {w : List Record} (new : Record) → Ascending w → ((x : Record) → List·Memᴰ x w → x .stamp .0 < new .stamp .0)
+    → Ascending (w ++ (new ∷ []))
+append-ascending new Ascending.none low = Ascending.more (λ y m. absurd (List·Memᴰ·not-nil m)) Ascending.none
+append-ascending new (Ascending.more {x} {xs} f a) low =
+    Ascending.more
+    (λ y m. ⊎-elim (λ i. f y i) (λ i. let e = List·Memᴰ·eq-of-singleton i in rw e (low x (List·Memᴰ·head refl))) (List·Memᴰ·append-cases xs m))
+    (append-ascending new a (λ y m. low y (List·Memᴰ·tail m)))

@@ -16,7 +16,7 @@ use Rattle.record.specs.declared.Stamp.{Stamp}
 use Rattle.record.specs.declared.Record.{Record}
 use Rattle.record.specs.Standing.{dummy, isDummy, isProper}
 use Rattle.record.specs.Order.{noLater, smallest, smallestBy}
-use Rattle.record.proofs.StandingLaws.{proper-true, proper-not-dummy}
+use Rattle.record.proofs.StandingLaws.{proper-true, proper-not-dummy, known-below}
 use Rattle.record.proofs.ManyLaws.{every-each}
 use Rattle.record.proofs.OrderLaws.{ordered, smallest-low, smallest-in, dummy-after-proper}
 use Rattle.path.specs.declared.sizes.Sizes.{Sizes}
@@ -48,6 +48,9 @@ module _ (s : Sizes) (next : Stamp) (T : Tree) (live : List Record) (g : Good s 
 
   pub live-label : (x : Record) → List·Memᴰ x live → x .label .0 < leavesOf (s .h)
   live-label x m = proper-true _ next x (live-proper x m) .label
+
+  pub live-stamp : (x : Record) → List·Memᴰ x live → x .stamp .0 < next .0
+  live-stamp x m = known-below next (x .stamp) (proper-true _ next x (live-proper x m) .stamp)
 
   -- a child's path goes through its parent
   parent-on : (l : Leaf) → l .0 < leavesOf (s .h) → (b c : Bucket) → 2 ≤ number c → number c / 2 ≡ number b → OnPath (s .h) l c → OnPath (s .h) l b

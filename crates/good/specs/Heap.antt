@@ -14,6 +14,7 @@ use Rattle.path.specs.Layout.{treeWords}
 use Rattle.judge.specs.BadParts.{stampOf}
 use Rattle.tree.specs.Tree.{treeOf}
 use Rattle.good.specs.Good.{Good}
+use Rattle.good.specs.Live.{Ascending}
 
 pub record Heap (s : Sizes) (t c : ℕ) (root : List Record) (least : Record) (tree : List ℕ) (live : List Record) : Type 0 where
   pub sizes : inRange s ≡ true
@@ -22,6 +23,8 @@ pub record Heap (s : Sizes) (t c : ℕ) (root : List Record) (least : Record) (t
   pub count : c ≡ length live
   pub most : c ≤ leavesOf (s .h)
   pub begun : c ≤ t
+  -- the live events in the order of insertion
+  pub order : Ascending live
   -- the root's 64 places, those past R with the dummy
   pub places : length root ≡ 64
   pub past : every isDummy (drop (s .r) root) ≡ true
