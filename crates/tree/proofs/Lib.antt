@@ -12,3 +12,4 @@ pub mod PairWork
 pub mod PairFetch
 pub mod PairStore
 pub mod Insertion
+pub mod Pins
