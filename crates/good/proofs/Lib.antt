@@ -5,6 +5,7 @@ pub mod PartsLaws
 pub mod ChangeLaws
 pub mod LeastLaws
 pub mod LowLaws
+pub mod SlotLaws
 pub mod LiveLaws
 pub mod WorkLaws
 pub mod DamageLaws
