@@ -86,6 +86,9 @@ module _ (s : Sizes) (t c : ℕ) (root : List Record) (least : Record) (tree : L
   pub least-live : 1 ≤ c → List·Memᴰ least live
   least-live l = rw root-least at (root-live s (stampOf t) T live g (omega (arith, H .count)))
 
+  pub least-real : 1 ≤ c → isDummy least ≡ false
+  least-real l = live-real s (stampOf t) T live g least (least-live l)
+
   pub least-none : c ≡ 0 → least ≡ dummy
   least-none e = sym root-least ∙ root-none s (stampOf t) T live g (omega (arith, H .count))
 

@@ -1,7 +1,7 @@
 -- What a request meets on a good heap: nothing Damaged, the least of all live events for ExtractMin, the event that Delete
 -- names exactly where it is live, and a slot for Insert's record where begin did not refuse. Assumes nothing.
 use Prim.Native.Nat.{ℕ, zero, suc, _*_, _≤_, _<_}
-use mathlib.Core.Bool.{true, false, not, true≢false}
+use mathlib.Core.Bool.{Bool, true, false, not, true≢false}
 use mathlib.Core.List.{List, [], _∷_, _++_, List·Memᴰ}
 use mathlib.Core.Logic.{inl, inr}
 use mathlib.Core.Path.{_≡_, refl, sym, _∙_}
@@ -33,7 +33,8 @@ use Rattle.tree.proofs.HalvesLaws.{Halves}
 use Rattle.good.specs.Heap.{Heap}
 use Rattle.good.proofs.FitLaws.{at-place}
 use Rattle.good.proofs.LowLaws.{live-label, root-smallest}
-use Rattle.good.proofs.WorkLaws.{live-found, found-live, named-is}
+use Rattle.good.proofs.PickLaws.{Picks, named-is, named-picks}
+use Rattle.good.proofs.WorkLaws.{live-found, found-live}
 use Rattle.good.proofs.RemovalLaws.{path-undamaged}
 use Rattle.good.proofs.InsertionLaws.{pair-undamaged}
 use Rattle.good.proofs.FewLaws.{root-least, least-live}
@@ -88,28 +89,28 @@ module _ (s : Sizes) (t c : ℕ) (root : List Record) (least : Record) (tree wor
       found-as-live = elim (dichotomy (found (named q stamp) way)) [
         | inr t′ ↦
             let there = rw way-is at t′ in
-            let m = found-live s q inside T live (stampOf t) (stampOf t) (omega arith) (H .good) stamp there in
+            let m = found-live s q inside T live (stampOf t) (stampOf t) (omega arith) (H .good) (named q stamp) stamp (named-picks q stamp) there in
             t′ ∙ sym (member-found (named q stamp) m (found-passes (named q stamp) (wayOf (s .h) q T) dummy there))
         | inl f′ ↦ elim (dichotomy (found (named q stamp) live)) [
           | inl f ↦ f′ ∙ sym f
           | inr t″ ↦
               let x = getD live (seek (named q stamp) (length live) live) dummy in
               let m : List·Memᴰ x live = at-place live _ (ltb-true _ _ t″) in
-              let n = named-is s q inside T live (stampOf t) (stampOf t) (omega arith) (H .good) stamp x
-              (found-passes (named q stamp) live dummy t″) in
+              let passes = found-passes (named q stamp) live dummy t″ in
+              let n = named-is q stamp x passes in
               absurd (true≢false (sym (rw (← way-is) at
-              (live-found s q inside T live (stampOf t) (stampOf t) (omega arith) (H .good) stamp x m (n .1) (n .2))) ∙ f′))
+              (live-found s q inside T live (stampOf t) (stampOf t) (omega arith) (H .good) (named q stamp) stamp (named-picks q stamp) x m
+              (n .1) passes)) ∙ f′))
         ]
       ]
 
-  -- ExtractMin's record is there
-  pub extract-found : (l : 1 ≤ c)
-      → found (named (least .label) (least .stamp))
-      (wayShown (s .h) (s .z) (s .r) root (fetched (s .z) tree (pathList (s .h) (least .label)) words) 0) ≡ true
-  extract-found l =
+  -- ExtractMin's record is there, by any test that it passes
+  pub extract-found : (l : 1 ≤ c) (f : Record → Bool) → Picks f (least .stamp) → f least ≡ true
+      → found f (wayShown (s .h) (s .z) (s .r) root (fetched (s .z) tree (pathList (s .h) (least .label)) words) 0) ≡ true
+  extract-found l f picks own =
       rw (way-is (least .label) (least-inside l))
-      (live-found s (least .label) (least-inside l) T live (stampOf t) (stampOf t) (omega arith) (H .good) (least .stamp) least
-      (least-live s t c root least tree live H l) refl refl)
+      (live-found s (least .label) (least-inside l) T live (stampOf t) (stampOf t) (omega arith) (H .good) f (least .stamp) picks least
+      (least-live s t c root least tree live H l) refl own)
 
   module _ (first second : Leaf) (p : Halves (s .h) first second) where
     pub heap-pair :

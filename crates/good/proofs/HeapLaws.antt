@@ -16,7 +16,7 @@ use Rattle.path.specs.Sizes.{leavesOf}
 use Rattle.path.specs.BucketList.{pathList, pairList}
 use Rattle.path.proofs.SizesLaws.{in-range}
 use Rattle.way.specs.Evict.{seek}
-use Rattle.gather.specs.Removal.{named, found, removed}
+use Rattle.gather.specs.Removal.{found, removed}
 use Rattle.gather.specs.Shown.{siblingsShown, slotsShown, wayShown}
 use Rattle.gather.proofs.RemovalLaws.{removed-length}
 use Rattle.mend.specs.Mended.{pathWords, besideAt}
@@ -34,6 +34,7 @@ use Rattle.good.specs.Live.{without, Ascending}
 use Rattle.good.specs.Heap.{Heap}
 use Rattle.good.proofs.LowLaws.{live-stamp}
 use Rattle.good.proofs.LiveLaws.{without-ascending, append-ascending}
+use Rattle.good.proofs.PickLaws.{Picks}
 use Rattle.good.proofs.WorkLaws.{taken-count}
 use Rattle.good.proofs.RemovalLaws.{removal-good, removal-absent}
 use Rattle.good.proofs.InsertionLaws.{insertion-good}
@@ -55,7 +56,7 @@ module _ (s : Sizes) (t c : ℕ) (root : List Record) (least : Record) (tree wor
   T = treeOf (s .z) (take (s .r) root) least tree
 
   -- ---- ExtractMin and Delete
-  module _ (q : Leaf) (inside : q .0 < leavesOf (s .h)) (stamp : Stamp) (more : List ℕ) where
+  module _ (q : Leaf) (inside : q .0 < leavesOf (s .h)) (f : Record → Bool) (stamp : Stamp) (picks : Picks f stamp) (more : List ℕ) where
     abbrev ws : List ℕ
     ws = fetched (s .z) tree (pathList (s .h) q) words
 
@@ -64,9 +65,6 @@ module _ (s : Sizes) (t c : ℕ) (root : List Record) (least : Record) (tree wor
 
     abbrev sibs : List Record
     sibs = siblingsShown (s .z) ws (s .h) 0 (s .h)
-
-    abbrev f : Record → Bool
-    f = named q stamp
 
     way-is : way ≡ wayOf (s .h) q T
     way-is = path-way (s .h) (s .z) (s .r) q inside root least tree words (H .words)
@@ -96,20 +94,22 @@ module _ (s : Sizes) (t c : ℕ) (root : List Record) (least : Record) (tree wor
             good = good;
           }
 
-    pub removal-heap : found (named q stamp) way ≡ true
+    pub removal-heap : found f way ≡ true
         → Heap s (suc t) (c - 1) (rooted (s .r) (removalRoot s q f sibs way) root) (removalLeast s q f sibs way)
         (stored (s .z) (pathList (s .h) q .whole) (pathWords (removalBuckets s q f sibs way) ++ more) tree) (without stamp live)
     removal-heap there =
-        let n = taken-count s q inside T live (stampOf t) (stampOf (suc t)) (omega arith) (H .good) stamp (rw way-is at there) in
+        let n = taken-count s q inside T live (stampOf t) (stampOf (suc t)) (omega arith) (H .good) f stamp picks (rw way-is at there) in
         removal-parts (c - 1) (without stamp live) (omega (arith, H .count)) (omega arith) (without-ascending stamp (H .order))
-        (removal-good s q inside root full least tree words (H .words) live (stampOf t) (H .good) stamp (stampOf (suc t)) (omega arith) more there)
+        (removal-good s q inside root full least tree words (H .words) live (stampOf t) (H .good) f stamp picks (stampOf (suc t))
+        (omega arith) more there)
 
-    pub absent-heap : found (named q stamp) way ≡ false
+    pub absent-heap : found f way ≡ false
         → Heap s (suc t) c (rooted (s .r) (removalRoot s q f sibs way) root) (removalLeast s q f sibs way)
         (stored (s .z) (pathList (s .h) q .whole) (pathWords (removalBuckets s q f sibs way) ++ more) tree) live
     absent-heap gone =
         removal-parts c live (H .count) (omega arith) (H .order)
-        (removal-absent s q inside root full least tree words (H .words) live (stampOf t) (H .good) stamp (stampOf (suc t)) (omega arith) more gone)
+        (removal-absent s q inside root full least tree words (H .words) live (stampOf t) (H .good) f stamp picks (stampOf (suc t))
+        (omega arith) more gone)
 
   -- ---- Insert
   module _ (first second : Leaf) (p : Halves (s .h) first second) (new : Record) (stamp : new .stamp .0 ≡ t)

@@ -7,6 +7,7 @@ pub mod LeastLaws
 pub mod LowLaws
 pub mod SlotLaws
 pub mod LiveLaws
+pub mod PickLaws
 pub mod WorkLaws
 pub mod DamageLaws
 pub mod AlikeLaws

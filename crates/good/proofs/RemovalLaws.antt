@@ -1,8 +1,8 @@
 -- ExtractMin and Delete on a good heap in words: what was fetched is not Damaged, what is found is the live event, and what
 -- finish leaves, stored by the rack, is a good heap of the others. Assumes nothing.
 use Prim.Native.Nat.{ℕ, suc, _+_, _-_, _≤_, _<_}
-use mathlib.Core.Bool.{true, false}
-use mathlib.Core.List.{List, _++_, List·Memᴰ}
+use mathlib.Core.Bool.{Bool, true, false}
+use mathlib.Core.List.{List, _++_}
 use mathlib.Core.Path.{_≡_, refl, ap, _∙_}
 use native.Mathlib.Omega.{arith}
 use lib.ListN.{length, take}
@@ -14,7 +14,7 @@ use Rattle.path.specs.Sizes.{leavesOf}
 use Rattle.path.specs.Path.{root as theRoot}
 use Rattle.path.specs.Layout.{Contents, treeWords}
 use Rattle.path.specs.BucketList.{pathList}
-use Rattle.gather.specs.Removal.{named, found}
+use Rattle.gather.specs.Removal.{found}
 use Rattle.gather.specs.Shown.{siblingsShown, wayShown}
 use Rattle.mend.specs.Mended.{pathWords}
 use Rattle.work.specs.Work.{removalBuckets, removalRoot, removalLeast, rooted}
@@ -29,7 +29,8 @@ use Rattle.good.specs.Good.{Good}
 use Rattle.good.specs.Live.{without}
 use Rattle.good.proofs.AlikeLaws.{alike-good}
 use Rattle.good.proofs.DamageLaws.{shownBy, good-path}
-use Rattle.good.proofs.WorkLaws.{live-found, taken-good, absent-good}
+use Rattle.good.proofs.PickLaws.{Picks}
+use Rattle.good.proofs.WorkLaws.{taken-good, absent-good}
 
 module _ (s : Sizes) (q : Leaf) (inside : q .0 < leavesOf (s .h)) (root : List Record) (full : s .r ≤ length root) (least : Record)
     (tree words : List ℕ) (size : length tree ≡ treeWords (s .h) (s .z)) (live : List Record) (next : Stamp)
@@ -71,22 +72,18 @@ module _ (s : Sizes) (q : Leaf) (inside : q .0 < leavesOf (s .h)) (root : List R
       top = ap (λ (c : Contents). c .least) (tree-root (s .z) (take (s .r) root) least tree)
 
   -- ---- what finish leaves, stored
-  module _ (stamp later : Stamp) (since : next .0 ≤ later .0) (more : List ℕ) where
+  module _ (f : Record → Bool) (stamp : Stamp) (picks : Picks f stamp) (later : Stamp) (since : next .0 ≤ later .0) (more : List ℕ) where
     abbrev after : Tree
     after =
-        treeOf (s .z) (take (s .r) (rooted (s .r) (removalRoot s q (named q stamp) sibs way) root)) (removalLeast s q (named q stamp) sibs way)
-        (stored (s .z) (pathList (s .h) q .whole) (pathWords (removalBuckets s q (named q stamp) sibs way) ++ more) tree)
+        treeOf (s .z) (take (s .r) (rooted (s .r) (removalRoot s q f sibs way) root)) (removalLeast s q f sibs way)
+        (stored (s .z) (pathList (s .h) q .whole) (pathWords (removalBuckets s q f sibs way) ++ more) tree)
 
-    pub removal-good : found (named q stamp) way ≡ true → Good s later after (without stamp live)
-    removal-good f =
-        alike-good s (taken s q (named q stamp) T) after (removal-stored s q inside root full least tree words size (named q stamp) more)
-        later (without stamp live) (taken-good s q inside T live next later since g stamp (rw way-is at f))
+    pub removal-good : found f way ≡ true → Good s later after (without stamp live)
+    removal-good e =
+        alike-good s (taken s q f T) after (removal-stored s q inside root full least tree words size f more)
+        later (without stamp live) (taken-good s q inside T live next later since g f stamp picks (rw way-is at e))
 
-    pub removal-absent : found (named q stamp) way ≡ false → Good s later after live
-    removal-absent f =
-        alike-good s (taken s q (named q stamp) T) after (removal-stored s q inside root full least tree words size (named q stamp) more)
-        later live (absent-good s q inside T live next later since g stamp (rw way-is at f))
-
-    -- a live event with this label and stamp is found
-    pub removal-found : (x : Record) → List·Memᴰ x live → x .label ≡ q → x .stamp .0 ≡ stamp .0 → found (named q stamp) way ≡ true
-    removal-found x m l n = rw way-is (live-found s q inside T live next later since g stamp x m l n)
+    pub removal-absent : found f way ≡ false → Good s later after live
+    removal-absent e =
+        alike-good s (taken s q f T) after (removal-stored s q inside root full least tree words size f more)
+        later live (absent-good s q inside T live next later since g f stamp picks (rw way-is at e))

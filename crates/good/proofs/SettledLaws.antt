@@ -1,7 +1,7 @@
 -- A good heap through a finish, by the definitions that finish cites: what it leaves, stored by the rack, is a good heap with
 -- the live events as they should be, and it is not Damaged, by any of the four clauses. Assumes nothing.
 use Prim.Native.Nat.{ℕ, suc, _<_}
-use mathlib.Core.Bool.{true, false, cond}
+use mathlib.Core.Bool.{Bool, true, false, cond}
 use mathlib.Core.List.{List, [], _∷_, _++_}
 use mathlib.Core.Logic.{inl, inr}
 use mathlib.Core.Path.{_≡_}
@@ -14,26 +14,27 @@ use Rattle.path.specs.declared.sizes.Sizes.{Sizes}
 use Rattle.path.specs.Sizes.{leavesOf}
 use Rattle.path.specs.BucketList.{pathList, pairList}
 use Rattle.root.specs.Root.{rootFull}
-use Rattle.gather.specs.Removal.{named, found}
+use Rattle.gather.specs.Removal.{found}
 use Rattle.judge.specs.BadParts.{stampOf}
 use Rattle.settle.specs.Left.{Left, wordsLeft, pathWay, removal, insertion, removalDamaged, insertionDamaged}
 use Rattle.rack.specs.Copy.{fetched, stored}
 use Rattle.tree.proofs.HalvesLaws.{Halves}
 use Rattle.good.specs.Live.{without}
 use Rattle.good.specs.Heap.{Heap}
+use Rattle.good.proofs.PickLaws.{Picks}
 use Rattle.good.proofs.FewLaws.{heap-card}
 use Rattle.good.proofs.HeapLaws.{removal-heap, absent-heap, insertion-heap}
 use Rattle.good.proofs.FoundLaws.{heap-full, root-room, heap-path, heap-pair}
 
 module _ (s : Sizes) (t c : ℕ) (root : List Record) (least : Record) (tree words : List ℕ) (live : List Record)
     (H : Heap s t c root least tree live) (left : t < s .t) where
-  -- ---- ExtractMin and Delete
-  module _ (q : Leaf) (inside : q .0 < leavesOf (s .h)) (stamp : Stamp) where
+  -- ---- ExtractMin and Delete, by any test that names one event by its stamp
+  module _ (q : Leaf) (inside : q .0 < leavesOf (s .h)) (f : Record → Bool) (stamp : Stamp) (picks : Picks f stamp) where
     abbrev ws : List ℕ
     ws = fetched (s .z) tree (pathList (s .h) q) words
 
     abbrev out : Left
-    out = removal s c root ws q (named q stamp)
+    out = removal s c root ws q f
 
     -- the live events afterwards
     abbrev others : List Record
@@ -41,12 +42,12 @@ module _ (s : Sizes) (t c : ℕ) (root : List Record) (least : Record) (tree wor
 
     pub removal-kept : Heap s (suc t) (out .c) (out .root) (out .least) (stored (s .z) (pathList (s .h) q .whole) (wordsLeft out ws) tree) others
     unfolding removal
-    removal-kept = elim (dichotomy (found (named q stamp) (pathWay s c root ws))) [
-      | inl gone ↦ rw gone (absent-heap s t c root least tree words live H left q inside stamp _ gone)
-      | inr there ↦ rw there (removal-heap s t c root least tree words live H left q inside stamp _ there)
+    removal-kept = elim (dichotomy (found f (pathWay s c root ws))) [
+      | inl gone ↦ rw gone (absent-heap s t c root least tree words live H left q inside f stamp picks _ gone)
+      | inr there ↦ rw there (removal-heap s t c root least tree words live H left q inside f stamp picks _ there)
     ]
 
-    pub removal-undamaged : removalDamaged s t c root least ws q (named q stamp) ≡ false
+    pub removal-undamaged : removalDamaged s t c root least ws q f ≡ false
     unfolding removalDamaged
     removal-undamaged =
         rw (heap-path s t c root least tree words live H q inside, heap-card s (suc t) (out .c) (out .root) (out .least) _ others removal-kept)

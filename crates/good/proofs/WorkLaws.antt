@@ -1,16 +1,16 @@
 -- The work of a finish keeps a heap good: one path worked on, a removal, and a removal that finds nothing. Assumes nothing.
 use Prim.Native.Nat.{suc, _≤_, _<_}
-use mathlib.Core.Bool.{true, false, and-eq-true-iff, true≢false}
+use mathlib.Core.Bool.{Bool, true, false, true≢false}
 use mathlib.Core.List.{List, List·Memᴰ}
 use mathlib.Core.Logic.{⊎-elim}
 use mathlib.Core.Path.{_≡_, refl, sym, ap, _∙_}
 use lib.ListN.{length, getD}
-use borrow.Author.Tests.{ltb-true, eqb-true, eq-eqb, not-true}
+use borrow.Author.Tests.{ltb-true}
 use Rattle.record.specs.declared.Leaf.{Leaf}
 use Rattle.record.specs.declared.Bucket.{Bucket}
 use Rattle.record.specs.declared.Stamp.{Stamp}
 use Rattle.record.specs.declared.Record.{Record}
-use Rattle.record.specs.Standing.{dummy, isDummy, isProper}
+use Rattle.record.specs.Standing.{dummy, isProper}
 use Rattle.record.specs.Many.{every, stampTwice}
 use Rattle.record.proofs.StandingLaws.{proper-true, proper-later, is-dummy}
 use Rattle.record.proofs.ManyLaws.{every-each, each-every}
@@ -18,7 +18,7 @@ use Rattle.path.specs.declared.sizes.Sizes.{Sizes}
 use Rattle.path.specs.Sizes.{leavesOf}
 use Rattle.path.specs.Path.{pathBucket}
 use Rattle.way.specs.Evict.{seek, evict}
-use Rattle.gather.specs.Removal.{named, found, removed}
+use Rattle.gather.specs.Removal.{found, removed}
 use Rattle.gather.proofs.RemovalLaws.{member-found, found-passes}
 use Rattle.tree.specs.Tree.{Tree, InTree, wayOf, slotsOn, besideOf}
 use Rattle.tree.specs.Path.{OffPath}
@@ -33,6 +33,7 @@ use Rattle.good.proofs.PartsLaws.{Parts, housed-parts, parts-evicted, p
 use Rattle.good.proofs.ChangeLaws.{parts-absent, parts-removed}
 use Rattle.good.proofs.LeastLaws.{mended-true}
 use Rattle.good.proofs.LowLaws.{live-proper, live-real, live-label}
+use Rattle.good.proofs.PickLaws.{Picks}
 use Rattle.good.proofs.LiveLaws.{without-in, without-other, without-stay, without-once, without-length}
 
 -- ---- one path worked on: only its own buckets' least records may have been false before
@@ -75,51 +76,40 @@ module _ (s : Sizes) (q : Leaf) (inside : q .0 < leavesOf (s .h)) (T : Tree) (li
       (rw (o .is ∙ ap (λ (l : Leaf). pathBucket (s .h) l (o .level)) e) at (p .2)))
       (g .housed .stands (p .0) (p .1) x (p .2))
 
-  module _ (stamp : Stamp) where
-    -- what has this label and stamp, is live and is found
-    pub named-is : (x : Record) → named q stamp x ≡ true → (isDummy x ≡ false) × (x .label ≡ q) × (x .stamp .0 ≡ stamp .0)
-    unfolding named
-    named-is x e =
-        let (real, (l, n)) = simp and-eq-true-iff at e in
-        let k = eqb-true (x .label .0) (q .0) l in
-        (not-true (isDummy x) real, (λ i. record { 0 = k i }), eqb-true _ _ n)
-
-    is-named : (x : Record) → isDummy x ≡ false → x .label ≡ q → x .stamp .0 ≡ stamp .0 → named q stamp x ≡ true
-    unfolding named
-    is-named x real l n = rw (real, eq-eqb (x .label .0) (q .0) (ap (λ (a : Leaf). a .0) l), eq-eqb (x .stamp .0) (stamp .0) n)
-
-    pub live-found : (x : Record) → List·Memᴰ x live → x .label ≡ q → x .stamp .0 ≡ stamp .0 → found (named q stamp) (wayOf (s .h) q T) ≡ true
-    live-found x m l n = member-found (named q stamp) (live-on-way x m l) (is-named x (live-real s next T live g x m) l n)
+  -- a test that names one event, by its stamp
+  module _ (f : Record → Bool) (stamp : Stamp) (picks : Picks f stamp) where
+    pub live-found : (x : Record) → List·Memᴰ x live → x .label ≡ q → f x ≡ true → found f (wayOf (s .h) q T) ≡ true
+    live-found x m l t = member-found f (live-on-way x m l) t
 
     abbrev there : Record
-    there = getD way (seek (named q stamp) (length way) way) dummy
+    there = getD way (seek f (length way) way) dummy
 
     -- what is found is live
-    pub found-live : found (named q stamp) (wayOf (s .h) q T) ≡ true
-        → List·Memᴰ (getD (wayOf (s .h) q T) (seek (named q stamp) (length (wayOf (s .h) q T)) (wayOf (s .h) q T)) dummy) live
+    pub found-live : found f (wayOf (s .h) q T) ≡ true
+        → List·Memᴰ (getD (wayOf (s .h) q T) (seek f (length (wayOf (s .h) q T)) (wayOf (s .h) q T)) dummy) live
     unfolding found
-    found-live f =
-        let r = named-is there (found-passes (named q stamp) way dummy f) in
-        ⊎-elim (λ e. absurd (true≢false (sym is-dummy ∙ (rw e at (r .0))))) (λ m. m)
-        (parts .stands there (at-place way _ (ltb-true _ _ f)))
+    found-live e =
+        let r = picks there (found-passes f way dummy e) in
+        ⊎-elim (λ d. absurd (true≢false (sym is-dummy ∙ (rw d at (r .0))))) (λ m. m)
+        (parts .stands there (at-place way _ (ltb-true _ _ e)))
 
     -- so there is one fewer without it
-    pub taken-count : found (named q stamp) (wayOf (s .h) q T) ≡ true → length live ≡ suc (length (without stamp live))
-    taken-count f = without-length stamp live (found-live f) (named-is there (found-passes (named q stamp) way dummy f) .2)
+    pub taken-count : found f (wayOf (s .h) q T) ≡ true → length live ≡ suc (length (without stamp live))
+    taken-count e = without-length stamp live (found-live e) (picks there (found-passes f way dummy e) .1)
 
     -- "replaces .. by the dummy"
-    pub taken-good : found (named q stamp) (wayOf (s .h) q T) ≡ true → Good s later (taken s q (named q stamp) T) (without stamp live)
-    taken-good f =
-        let r = named-is there (found-passes (named q stamp) way dummy f) in
+    pub taken-good : found f (wayOf (s .h) q T) ≡ true → Good s later (taken s q f T) (without stamp live)
+    taken-good e =
+        let r = picks there (found-passes f way dummy e) in
         let once = test-once live (g .stamps) in
-        worked-good s q inside T live (without stamp live) (removed (named q stamp) way) later (g .housed) (λ b t o. g .leasts b t)
+        worked-good s q inside T live (without stamp live) (removed f way) later (g .housed) (λ b t o. g .leasts b t)
         (proper-since (without stamp live) (λ x m. without-in stamp live m)) (once-test (without-once stamp live once))
-        (parts-removed s q T live way parts (named q stamp) f (without stamp live) (r .0)
-        (λ x m. (without-in stamp live m, λ n. without-other stamp live (live-real s next T live g) once m (sym (n .stamp) ∙ r .2)))
-        (λ x m n. without-stay stamp live m (λ e. n (record { one = r .0; two = live-real s next T live g x m; stamp = r .2 ∙ sym e }))))
+        (parts-removed s q T live way parts f e (without stamp live) (r .0)
+        (λ x m. (without-in stamp live m, λ n. without-other stamp live (live-real s next T live g) once m (sym (n .stamp) ∙ r .1)))
+        (λ x m n. without-stay stamp live m (λ e. n (record { one = r .0; two = live-real s next T live g x m; stamp = r .1 ∙ sym e }))))
 
     -- "or answers Absent and removes nothing"
-    pub absent-good : found (named q stamp) (wayOf (s .h) q T) ≡ false → Good s later (taken s q (named q stamp) T) live
-    absent-good f =
-        worked-good s q inside T live live (removed (named q stamp) way) later (g .housed) (λ b t o. g .leasts b t)
-        (proper-since live (λ x m. m)) (g .stamps) (parts-absent s q T live way parts (named q stamp) f)
+    pub absent-good : found f (wayOf (s .h) q T) ≡ false → Good s later (taken s q f T) live
+    absent-good e =
+        worked-good s q inside T live live (removed f way) later (g .housed) (λ b t o. g .leasts b t)
+        (proper-since live (λ x m. m)) (g .stamps) (parts-absent s q T live way parts f e)

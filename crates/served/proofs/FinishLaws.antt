@@ -1,14 +1,14 @@
 -- A finish on a ready card, for each request that may wait: it is not Damaged, and the card that comes out is ready, with the
 -- tree into which the rack has stored the whole buckets. Assumes nothing.
 use Prim.Native.Nat.{ℕ, suc, _≤_, _<_}
-use mathlib.Core.Bool.{true, false, cond}
+use mathlib.Core.Bool.{Bool, true, false, cond}
 use mathlib.Core.List.{List, [], _∷_, _++_}
 use mathlib.Core.Path.{_≡_, refl}
 use native.Mathlib.Omega.{arith}
 use Rattle.record.specs.declared.Leaf.{Leaf}
 use Rattle.record.specs.declared.Stamp.{Stamp}
 use Rattle.record.specs.declared.Record.{Record}
-use Rattle.record.specs.Standing.{dummyKey, recordOf, isProper}
+use Rattle.record.specs.Standing.{dummyKey, recordOf, isProper, same}
 use Rattle.record.proofs.StandingLaws.{true-proper, below-known}
 use Rattle.path.specs.Sizes.{leavesOf}
 use Rattle.path.specs.BucketList.{pathList, pairList}
@@ -25,6 +25,8 @@ use Rattle.card.proofs.BeginLaws.{Insertable, insertable, extractable, Deletabl
 use Rattle.tree.proofs.HalvesLaws.{Halves}
 use Rattle.good.specs.Live.{without}
 use Rattle.good.specs.Heap.{Heap}
+use Rattle.good.proofs.PickLaws.{Picks, named-picks, same-picks}
+use Rattle.good.proofs.FewLaws.{least-real}
 use Rattle.good.proofs.FoundLaws.{least-inside, extract-found, found-as-live}
 use Rattle.good.proofs.SettledLaws.{removal-kept, removal-undamaged, insertion-kept, insertion-undamaged}
 use Rattle.served.specs.Ready.{Ready, cardLeft}
@@ -46,9 +48,6 @@ module _ (k : Card) (tree words : List ℕ) (live : List Record) (r : Ready k tr
     abbrev ws : List ℕ
     ws = fetched (k .sizes .z) tree (pathList (k .sizes .h) (m .label)) words
 
-    abbrev out : Left
-    out = removal (k .sizes) (k .c) (k .root) ws (m .label) (named (m .label) (m .stamp))
-
     taken : firstGiven (requestTable k Extract) ≡ 0
     taken = rw w at (r .waiting)
 
@@ -58,24 +57,34 @@ module _ (k : Card) (tree words : List ℕ) (live : List Record) (r : Ready k tr
     left : k .t < k .sizes .t
     left = omega (arith, extractable k taken .time, H .spent)
 
-    pub extract-undamaged : removalDamaged (k .sizes) (k .t) (k .c) (k .root) (k .least) ws (m .label) (named (m .label) (m .stamp)) ≡ false
-    extract-undamaged =
-        removal-undamaged (k .sizes) (k .t) (k .c) (k .root) (k .least) tree words live H left (m .label)
-        (least-inside (k .sizes) (k .t) (k .c) (k .root) (k .least) tree words live H some) (m .stamp)
+    inside : m .label .0 < leavesOf (k .sizes .h)
+    inside = least-inside (k .sizes) (k .t) (k .c) (k .root) (k .least) tree words live H some
 
-    -- it is always found
-    pub extract-there : out .found ≡ true
-    unfolding removal
-    extract-there = extract-found (k .sizes) (k .t) (k .c) (k .root) (k .least) tree words live H some
+    -- the root's least record itself names one event
+    pub least-picks : Picks (same m) (m .stamp)
+    least-picks = same-picks m (least-real (k .sizes) (k .t) (k .c) (k .root) (k .least) tree live H some)
 
-    -- "replaces the root's least record .. by the dummy"
-    pub extract-ready : Ready (cardLeft k out) (stored (k .sizes .z) (pathList (k .sizes .h) (m .label) .whole) (wordsLeft out ws) tree)
-        (without (m .stamp) live)
-    extract-ready =
-        ready-left out _ (without (m .stamp) live)
-        (rw extract-there at
-        (removal-kept (k .sizes) (k .t) (k .c) (k .root) (k .least) tree words live H left (m .label)
-        (least-inside (k .sizes) (k .t) (k .c) (k .root) (k .least) tree words live H some) (m .stamp)))
+    -- by any test that it passes, and that names one event
+    module _ (f : Record → Bool) (own : f m ≡ true) (picks : Picks f (m .stamp)) where
+      abbrev out : Left
+      out = removal (k .sizes) (k .c) (k .root) ws (m .label) f
+
+      pub extract-undamaged : removalDamaged (k .sizes) (k .t) (k .c) (k .root) (k .least) ws (m .label) f ≡ false
+      extract-undamaged =
+          removal-undamaged (k .sizes) (k .t) (k .c) (k .root) (k .least) tree words live H left (m .label) inside f (m .stamp) picks
+
+      -- it is always found
+      pub extract-there : out .found ≡ true
+      unfolding removal
+      extract-there = extract-found (k .sizes) (k .t) (k .c) (k .root) (k .least) tree words live H some f picks own
+
+      -- "replaces the root's least record .. by the dummy"
+      pub extract-ready :
+          Ready (cardLeft k out) (stored (k .sizes .z) (pathList (k .sizes .h) (m .label) .whole) (wordsLeft out ws) tree) (without (m .stamp) live)
+      extract-ready =
+          ready-left out _ (without (m .stamp) live)
+          (rw extract-there at
+          (removal-kept (k .sizes) (k .t) (k .c) (k .root) (k .least) tree words live H left (m .label) inside f (m .stamp) picks))
 
   -- ---- Delete
   module _ (label : Leaf) (stamp : Stamp) (w : k .waiting ≡ Delete label stamp) where
@@ -92,7 +101,8 @@ module _ (k : Card) (tree words : List ℕ) (live : List Record) (r : Ready k tr
     time = omega (arith, rules .time, H .spent)
 
     pub delete-undamaged : removalDamaged (k .sizes) (k .t) (k .c) (k .root) (k .least) ws′ label (named label stamp) ≡ false
-    delete-undamaged = removal-undamaged (k .sizes) (k .t) (k .c) (k .root) (k .least) tree words live H time label (rules .label) stamp
+    delete-undamaged = removal-undamaged (k .sizes) (k .t) (k .c) (k .root) (k .least) tree words live H time label (rules .label)
+        (named label stamp) stamp (named-picks label stamp)
 
     -- found, or Absent, as it is among the live events
     pub delete-found : out′ .found ≡ found (named label stamp) live
@@ -104,7 +114,8 @@ module _ (k : Card) (tree words : List ℕ) (live : List Record) (r : Ready k tr
         (cond (found (named label stamp) live) (without stamp live) live)
     delete-ready =
         ready-left out′ _ (cond (found (named label stamp) live) (without stamp live) live)
-        (rw delete-found at (removal-kept (k .sizes) (k .t) (k .c) (k .root) (k .least) tree words live H time label (rules .label) stamp))
+        (rw delete-found at (removal-kept (k .sizes) (k .t) (k .c) (k .root) (k .least) tree words live H time label (rules .label)
+        (named label stamp) stamp (named-picks label stamp)))
 
   -- ---- Insert: the key is a 64-bit number
   module _ (key value : ℕ) (label first second : Leaf) (w : k .waiting ≡ Insert key value label first second) (word : key ≤ dummyKey) where

@@ -90,7 +90,8 @@ module _ (s : Sizes) (first second : Leaf) (p : Halves (s .h) first second) (new
   pub second-buckets : secondBuckets s first second new b₁ b₂ way slots₂ ≡ pathBuckets s second (besideOf (s .h) second T₁) (wayOf (s .h) second T₁)
   unfolding pathBuckets
   second-buckets =
-      rw second-way (mended-same (s .h) second slotsLeft (secondBeside s first second new b₁ b₂ way slots₂) (besideOf (s .h) second T₁) 1 second-beside (omega arith))
+      rw second-way (mended-same (s .h) second slotsLeft (secondBeside s first second new b₁ b₂ way slots₂)
+      (besideOf (s .h) second T₁) 1 second-beside (omega arith))
 
   pub second-root :
       rootAfter s second (secondBeside s first second new b₁ b₂ way slots₂) (secondWay s first second new b₁ b₂ way slots₂)
