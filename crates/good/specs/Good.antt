@@ -37,10 +37,11 @@ pub record Housed (s : Sizes) (T : Tree) (live : List Record) : Type 0 where
       (a b : Bucket) → InTree (s .h) a → InTree (s .h) b → (x y : Record) → List·Memᴰ x (T a .slots) → List·Memᴰ y (T b .slots)
       → isDummy x ≡ false → isDummy y ≡ false → x .stamp .0 ≡ y .stamp .0 → a ≡ b
 
--- the least records of a bucket's two children, "the lower child" first; a leaf's bucket has none
+-- the least records of a bucket's two children, "the lower child" first
 abbrev pub bothChildren : Tree → Bucket → List Record
 bothChildren T b = T (lowerChild b) .least ∷ T (upperChild b) .least ∷ []
 
+-- those of any bucket: a leaf's has no children
 unfoldable pub childrenIn : ℕ → Tree → Bucket → List Record
 childrenIn h T b = cond (ltb (number b) (leavesOf h)) (bothChildren T b) []
 
