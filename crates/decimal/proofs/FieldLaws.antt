@@ -1,9 +1,9 @@
 -- A field read from the left: where the loop begins, what a turn does, what it comes to, and what refuses a field.
 -- Assumes nothing.
 use Prim.Native.Nat.{ℕ, _+_, _*_, _-_, _^_, _≤_, _<_}
-use mathlib.Core.Bool.{true, false, _&&_, and-true, and-false}
+use mathlib.Core.Bool.{true, false, _&&_, cond, and-true, and-false}
 use mathlib.Core.List.{List}
-use mathlib.Core.Path.{_≡_, refl, _∙_}
+use mathlib.Core.Path.{_≡_, refl, sym, _∙_}
 use native.Mathlib.Omega.{arith}
 use native.Mathlib.Numerals.{add-one}
 use lib.Dec.{eqb}
@@ -106,3 +106,22 @@ module _ (field : List ℕ) (n i : ℕ) (s : Scanning field n i) where
       let all : allDigits field ≡ true = s .rest ∙ rw none in
       let is : value field ≡ n = s .sum ∙ rw none in
       rw (ne-eqb (length field) 0 some, lead, all, is, lt-ltb n (2 ^ 64) (s .small))
+
+-- ---- what a reading tells
+no-reading : (n : ℕ) → Number n ≡ Unreadable → ⊥
+no-reading n e =
+    let no : _≡_ {A = ℕ} 0 1 = cc in
+    omega arith
+
+module _ (field : List ℕ) where
+  pub read-number : (n : ℕ) → reads field ≡ Number n → (isNumber field ≡ true) × (value field ≡ n)
+  read-number n = (elim (isNumber field) as (λ t. isNumber field ≡ t → cond t (Number (value field)) Unreadable ≡ Number n → (isNumber field ≡ true) × (value field ≡ n)) [
+    | true ↦ λ e r. (e, cc)
+    | false ↦ λ e r. absurd (no-reading n (sym r))
+  ]) refl
+
+  pub read-none : reads field ≡ Unreadable → isNumber field ≡ false
+  read-none = (elim (isNumber field) as (λ t. isNumber field ≡ t → cond t (Number (value field)) Unreadable ≡ Unreadable → isNumber field ≡ false) [
+    | true ↦ λ e r. absurd (no-reading (value field) r)
+    | false ↦ λ e r. e
+  ]) refl
