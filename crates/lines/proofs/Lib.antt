@@ -3,3 +3,6 @@ pub mod PiecesLaws
 pub mod NumbersLaws
 pub mod WalkLaws
 pub mod SaysLaws
+pub mod TakeLaws
+pub mod FramingLaws
+pub mod TableLaws

@@ -2,3 +2,4 @@
 pub mod Pieces
 pub mod Says
 pub mod Behind
+pub mod Framing

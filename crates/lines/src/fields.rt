@@ -7,13 +7,15 @@ ghost use Rattle.lines.specs.Pieces.{same as Pieces·same};
 ghost use Rattle.lines.specs.Behind.{behind, Numbered};
 use decimal::Reading;
 
-// Where the field ends that starts at `from`: at the next space, or with the line.
-pub(crate) fn end_of(line: &[u8], from: usize) -> usize
-    ensures { λ r. ⌜ r ≡ from + length (before 32 (drop from (now (line .entry)))) ⌝ }
+pub(crate) const SPACE: u8 = 32;
+
+// Where the piece ends that starts at `from`: at the next byte `at`, or with the bytes.
+pub(crate) fn end_of(bytes: &[u8], from: usize, at: u8) -> usize
+    ensures { λ r. ⌜ r ≡ from + length (before at (drop from (now (bytes .entry)))) ⌝ }
 {
     let mut i = from;
-    while i < line.len() {
-        if line[i] == b' ' {
+    while i < bytes.len() {
+        if bytes[i] == at {
             return i;
         }
         i += 1;
@@ -49,7 +51,7 @@ pub(crate) fn numbers(line: &[u8], from: usize, out: &mut [u64]) -> bool
             return false;
         }
         let start = at + 1;
-        let end = end_of(line, start);
+        let end = end_of(line, start, SPACE);
         let Reading::Number(n) = decimal::read(&line[start..end]) else {
             return false;
         };

@@ -85,7 +85,7 @@ pub fn read_line(line: &[u8]) -> Line
     if line.len() > LINE_MOST {
         return Line::Unreadable;
     }
-    let end = fields::end_of(line, 0);
+    let end = fields::end_of(line, 0, fields::SPACE);
     let word = &line[..end];
     if fields::same(word, b"size") {
         return size(line, end);

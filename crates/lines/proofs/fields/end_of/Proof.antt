@@ -10,10 +10,10 @@ use Rattle.lines.proofs.fields.end_of.Statement.{statement}
 use Rattle.lines.proofs.fields.end_of.Tie as tie
 
 abbrev Inv-loop : tie.InvT-loop
-Inv-loop line from i₀ i = from + length (before 32 (drop from line)) ≡ i + length (before 32 (drop i line))
+Inv-loop bytes from at i₀ i = from + length (before at (drop from bytes)) ≡ i + length (before at (drop i bytes))
 
 abbrev μ-loop : tie.MeasureT-loop
-μ-loop line from i₀ i = length line - i
+μ-loop bytes from at i₀ i = length bytes - i
 
 loop-holds : tie.Need-loop-holds Inv-loop μ-loop
 loop-holds c = refl
@@ -23,7 +23,7 @@ shared-slice-read-if1 c = search needs
 
 returns : tie.Need-returns Inv-loop μ-loop
 returns c =
-    omega (arith, c .before .before .before .loop .inv, before-stops 32 (c .before .before .before .before .args .line .now) (c .before .before .before .loop .i) (c .before .before .loop-test .taken) (c .if1 .taken))
+    omega (arith, c .before .before .before .loop .inv, before-stops (c .before .before .before .before .args .at) (c .before .before .before .before .args .bytes .now) (c .before .before .before .loop .i) (c .before .before .loop-test .taken) (c .if1 .taken))
 
 add-i : tie.Need-add-i Inv-loop μ-loop
 add-i c = search needs
@@ -33,11 +33,11 @@ loop-less c = search needs
 
 loop-again : tie.Need-loop-again Inv-loop μ-loop
 loop-again c =
-    omega (arith, c .before .before .before .loop .inv, before-goes-on 32 (c .before .before .before .before .args .line .now) (c .before .before .before .loop .i) (c .before .before .loop-test .taken) (c .if1 .left))
+    omega (arith, c .before .before .before .loop .inv, before-goes-on (c .before .before .before .before .args .at) (c .before .before .before .before .args .bytes .now) (c .before .before .before .loop .i) (c .before .before .loop-test .taken) (c .if1 .left))
 
 returns-2 : tie.Need-returns-2 Inv-loop μ-loop
 returns-2 c =
-    omega (arith, c .before .loop .inv, before-ends 32 (c .before .before .args .line .now) (c .before .loop .i) (c .loop-test .left))
+    omega (arith, c .before .loop .inv, before-ends (c .before .before .args .at) (c .before .before .args .bytes .now) (c .before .loop .i) (c .loop-test .left))
 
 pub end-of-spec : {M : Type 1} → statement M
 end-of-spec =
