@@ -1,15 +1,15 @@
 -- Lines cut out of bytes as they come are the lines of the whole input, however the bytes are parted into chunks. `Framed` says
--- where a reader stands: `done` are the lines that have ended, `open` has come of the next one, `rest` is still to come.
--- `Keeps` says what the buffer holds of the open line. Assumes nothing.
+-- where a reader stands: `done` are the lines that have ended, `begun` has come of the next one, `rest` is still to come.
+-- `Keeps` says what the buffer holds of the line begun. Assumes nothing.
 use Prim.Native.Nat.{ℕ, zero, suc, _+_, _-_, _≤_, _<_}
-use mathlib.Core.Bool.{Bool, true, false, cond}
+use mathlib.Core.Bool.{Bool, true, false, cond, true≢false}
 use mathlib.Core.List.{List, [], _∷_, _++_, append-assoc, append-nil}
 use mathlib.Core.Path.{_≡_, refl, sym, ap, _∙_}
 use native.Mathlib.Omega.{arith}
 use lib.Dec.{ltb, eqb}
-use lib.ListN.{length, take, drop, length-append, length-take}
-use lib.Seq.{take-all, take-append-le, take-at, drop-drop, length-take-le}
-use borrow.Author.Tests.{ltb-true, ltb-false, eqb-true}
+use lib.ListN.{length, take, drop, length-append, length-take, length-drop}
+use lib.Seq.{take-all, take-nil, take-append-le, take-at, drop-drop, length-take-le}
+use borrow.Author.Tests.{ltb-true, ltb-false, lt-ltb, eqb-true}
 use Rattle.lines.specs.declared.Taken.{Taken}
 use Rattle.lines.specs.Pieces.{onto, pieces, linesOf, before}
 use Rattle.lines.specs.Says.{lineSays}
@@ -72,3 +72,136 @@ lines-open (a ∷ []) f = rw (free-head a [] f .other)
 lines-open (a ∷ b ∷ xs) f =
     let h = free-head a (b ∷ xs) f in
     rw (h .other, lines-open (b ∷ xs) (h .rest))
+
+-- ---- bytes with a line end, or without
+unended : (bs : List ℕ) → hasEnd bs ≡ false → before 10 bs ≡ bs
+unended bs e =
+    let all : length bs ≤ length (before 10 bs) = ltb-false _ _ e in
+    sym (before-head 10 bs) ∙ take-all (length (before 10 bs)) bs all
+
+ended : (bs : List ℕ) → hasEnd bs ≡ true → bs ≡ before 10 bs ++ 10 ∷ drop (suc (length (before 10 bs))) bs
+unfolding before
+ended [] = λ e. absurd (true≢false (sym e))
+ended (b ∷ bs) = (elim (eqb b 10) as (λ t. eqb b 10 ≡ t → ltb (length (cond t [] (b ∷ before 10 bs))) (suc (length bs)) ≡ true → b ∷ bs ≡ cond t [] (b ∷ before 10 bs) ++ 10 ∷ drop (suc (length (cond t [] (b ∷ before 10 bs)))) (b ∷ bs)) [
+  | true ↦ λ e h. rw (eqb-true b 10 e)
+  | false ↦ λ e h.
+      let inner : hasEnd bs ≡ true = lt-ltb (length (before 10 bs)) (length bs) (omega (arith, ltb-true (suc (length (before 10 bs))) (suc (length bs)) h)) in
+      ap (λ (l : List ℕ). b ∷ l) (ended bs inner)
+]) refl
+
+-- ---- where a reader of the input stands
+pub record Framed (input : List ℕ) (done : List (List ℕ)) (begun rest : List ℕ) : Type 0 where
+  pub lines : linesOf input ≡ done ++ linesOf (begun ++ rest)
+  pub free : Free begun
+
+pub framed-starts : (input : List ℕ) → Framed input [] [] input
+unfolding before
+framed-starts input = record { lines = refl; free = refl }
+
+-- at the end of the input
+pub framed-ends : (input : List ℕ) (done : List (List ℕ)) (begun : List ℕ) → Framed input done begun [] → linesOf input ≡ done ++ lastOf begun
+framed-ends input done begun f = f .lines ∙ rw (append-nil, lines-open begun (f .free))
+
+module _
+    (input : List ℕ) (done : List (List ℕ)) (begun chunk later : List ℕ) (from : ℕ)
+    (f : Framed input done begun (drop from chunk ++ later))
+    (buffer after : List ℕ) (held : ℕ) (r : Taken)
+    (t : Takes buffer held chunk from r after)
+  where
+    -- the line has ended
+    pub framed-line :
+        r .ended ≡ true
+        → Framed input (done ++ (begun ++ before 10 (drop from chunk)) ∷ []) [] (drop (r .next) chunk ++ later)
+    unfolding before
+    framed-line e =
+        let bs = drop from chunk in
+        let has : hasEnd bs ≡ true = sym (t .ended) ∙ e in
+        let n : takenOf bs ≡ suc (length (before 10 bs)) = rw has (omega arith) in
+        let past : drop (r .next) chunk ≡ drop (suc (length (before 10 bs))) bs = rw (t .next, n) (sym (drop-drop (suc (length (before 10 bs))) from chunk)) in
+        let parted : begun ++ (bs ++ later) ≡ (begun ++ before 10 bs) ++ 10 ∷ (drop (suc (length (before 10 bs))) bs ++ later) =
+        ap (λ (l : List ℕ). begun ++ (l ++ later)) (ended bs has) ∙ simp append-assoc in
+        record {
+          lines =
+              f .lines
+              ∙ ap (λ (l : List ℕ). done ++ linesOf l) parted
+              ∙ ap (λ (l : List (List ℕ)). done ++ l)
+              (lines-ended (begun ++ before 10 bs) _ (free-append begun (before 10 bs) (f .free) (free-before bs)))
+              ∙ rw past (simp append-assoc);
+          free = refl;
+        }
+
+    -- the chunk has ended before the line
+    pub framed-open : r .ended ≡ false → Framed input done (begun ++ before 10 (drop from chunk)) later
+    framed-open e =
+        let bs = drop from chunk in
+        let all = unended bs (sym (t .ended) ∙ e) in
+        record {
+          lines = f .lines ∙ rw (all, append-assoc);
+          free = free-append begun (before 10 bs) (f .free) (free-before bs);
+        }
+
+-- ---- what the buffer holds of the line begun
+pub record Keeps (buffer : List ℕ) (held : ℕ) (begun : List ℕ) : Type 0 where
+  pub within : held ≤ length buffer
+  pub head : take held buffer ≡ take (length buffer) begun
+
+pub keeps-nothing : (buffer : List ℕ) → Keeps buffer 0 []
+keeps-nothing buffer = record { within = omega arith; head = sym (take-nil (length buffer)) }
+
+take-twice : (n : ℕ) (xs ys : List ℕ) → take n (take n xs ++ ys) ≡ take n (xs ++ ys)
+take-twice zero xs ys = refl
+take-twice (suc n) [] ys = refl
+take-twice (suc n) (x ∷ xs) ys = ap (λ (l : List ℕ). x ∷ l) (take-twice n xs ys)
+
+module _ (buffer : List ℕ) (held : ℕ) (begun : List ℕ) (k : Keeps buffer held begun) where
+  -- after a call of `take_line`
+  pub keeps-more :
+      (chunk : List ℕ) (from : ℕ) (r : Taken) (after : List ℕ) → Takes buffer held chunk from r after
+      → Keeps after (r .held) (begun ++ before 10 (drop from chunk))
+  keeps-more chunk from r after t =
+      let bs = drop from chunk in
+      let kept = keptOf (length buffer) (take held buffer) bs in
+      let short : length kept ≤ length buffer = omega (arith, length-take (length buffer) (take held buffer ++ before 10 bs)) in
+      let size : length after ≡ length buffer =
+      rw (t .lent, length-append, length-drop (r .held) buffer) (omega (arith, t .held)) in
+      record {
+        within = omega (arith, t .held);
+        head =
+            rw (t .lent, take-at kept (drop (r .held) buffer) (r .held) (sym (t .held)), ← t .lent, size, k .head)
+            (take-twice (length buffer) begun (before 10 bs));
+      }
+
+  -- with room for one byte more than a line may have, what is held says what the line says
+  pub keeps-says : 128 < length buffer → lineSays (take held buffer) ≡ lineSays begun
+  keeps-says l = rw (k .head) (cut-says (length buffer) begun l)
+    where
+      cut-says : (n : ℕ) (line : List ℕ) → 128 < n → lineSays (take n line) ≡ lineSays line
+      cut-says n line m = (elim (ltb n (length line)) as (λ t. ltb n (length line) ≡ t → lineSays (take n line) ≡ lineSays line) [
+        | true ↦ λ e.
+            let long = ltb-true n (length line) e in
+            sym (over-long (take n line) (omega (arith, length-take n line))) ∙ over-long line (omega arith)
+        | false ↦ λ e. rw (take-all n line (ltb-false n (length line) e))
+      ]) refl
+
+  -- at the end of the input: a last line stands there exactly if some of it is held
+  pub keeps-none : 0 < length buffer → held ≡ 0 → lastOf begun ≡ []
+  keeps-none l e = none begun (rw e at (k .head))
+    where
+      none : (line : List ℕ) → take 0 buffer ≡ take (length buffer) line → lastOf line ≡ []
+      none [] h = refl
+      none (b ∷ line) h = absurd (some (length buffer) l h)
+        where
+          some : (n : ℕ) → 0 < n → [] ≡ take n (b ∷ line) → ⊥
+          some zero m h = omega arith
+          some (suc n) m h =
+              let no : _≡_ {A = ℕ} 0 1 = cc in
+              omega arith
+
+  pub keeps-some : 0 < held → lastOf begun ≡ begun ∷ []
+  keeps-some l = some begun (k .head)
+    where
+      some : (line : List ℕ) → take held buffer ≡ take (length buffer) line → lastOf line ≡ line ∷ []
+      some [] h =
+          let e = ap length (h ∙ take-nil (length buffer)) in
+          absurd (omega (arith, e, length-take held buffer, k .within))
+      some (b ∷ line) h = refl
