@@ -8,8 +8,8 @@ use native.Mathlib.Nat.{div-one}
 use lib.ListN.{length, take, drop, set, length-set, take-append-drop, drop-of-length-le}
 use lib.Seq.{length-take-le, take-set-lt, drop-set-lt, drop-cons, getD-set-same}
 use borrow.Author.Tests.{le-leb, lt-leb}
-use Rattle.decimal.specs.Digits.{digits, widthOf}
-use Rattle.decimal.specs.Promises.{Prints}
+use Rattle.decimal.specs.Digits.{digits, widthOf, decimal}
+use Rattle.decimal.specs.Promises.{Laid}
 use Rattle.decimal.proofs.ValueLaws.{shorter}
 
 pub digits-length : (k n : ℕ) → length (digits k n) ≡ k
@@ -73,13 +73,35 @@ module _ (n k : ℕ) (old : List ℕ) (l : k ≤ length old) where
       sym (take-append-drop k now) ∙ rw (head, s .past)
 
 -- ---- what is promised
-module _ (n : ℕ) (old : List ℕ) where
-  pub no-room : (k : ℕ) → k ≡ widthOf n → length old < k → Prints n old 0 old
-  no-room k e l =
-      let short = lt-leb (widthOf n) (length old) (omega arith) in
+module _ (bytes old : List ℕ) where
+  pub no-room : length old < length bytes → Laid bytes old 0 old
+  no-room l =
+      let short = lt-leb (length bytes) (length old) l in
       record { counted = rw short; lent = rw short }
 
-  pub in-room : (k : ℕ) (now : List ℕ) → k ≡ widthOf n → k ≤ length old → now ≡ digits k n ++ drop k old → Prints n old k now
+  pub in-room :
+      (k : ℕ) (now : List ℕ) → k ≡ length bytes → length bytes ≤ length old → now ≡ bytes ++ drop (length bytes) old
+      → Laid bytes old k now
   in-room k now e l is =
-      let enough = le-leb (widthOf n) (length old) (omega arith) in
-      record { counted = rw enough e; lent = rw (enough, ← e) is }
+      let enough = le-leb (length bytes) (length old) l in
+      record { counted = rw enough e; lent = rw enough is }
+
+module _ (n k : ℕ) (old : List ℕ) (e : k ≡ widthOf n) where
+  pub number-no-room : length old < k → Laid (decimal n) old 0 old
+  number-no-room l = no-room (decimal n) old (omega (arith, digits-length (widthOf n) n))
+
+  pub number-in-room : (now : List ℕ) → k ≤ length old → now ≡ digits k n ++ drop k old → Laid (decimal n) old k now
+  number-in-room now l is =
+      let size = digits-length (widthOf n) n in
+      in-room (decimal n) old k now (omega arith) (omega arith) (rw (size, ← e) is)
+
+-- ---- what a promise tells where there is room
+pub laid-in-room :
+    (bytes old : List ℕ) (k : ℕ) (now : List ℕ) → Laid bytes old k now → length bytes ≤ length old
+    → (k ≡ length bytes) × (now ≡ bytes ++ drop (length bytes) old)
+laid-in-room bytes old k now p l =
+    let enough = le-leb (length bytes) (length old) l in
+    (rw enough at (p .counted), rw enough at (p .lent))
+
+pub decimal-length : (n : ℕ) → length (decimal n) ≡ widthOf n
+decimal-length n = digits-length (widthOf n) n

@@ -3,9 +3,9 @@
 // A field is read if it is the one way to write some number, and a number is printed in that way; no sum wraps. Stands on
 // no other crate.
 ghost use mathlib.Core.Path.{_≡_};
-ghost use Rattle.decimal.specs.Digits.{widthOf};
+ghost use Rattle.decimal.specs.Digits.{widthOf, decimal};
 ghost use Rattle.decimal.specs.Field.{leadingZero, reads};
-ghost use Rattle.decimal.specs.Promises.{Prints};
+ghost use Rattle.decimal.specs.Promises.{Laid};
 
 // What a field says.
 pub enum Reading {
@@ -82,7 +82,7 @@ pub fn width(n: u64) -> usize
 
 // The number at the head of the slice, and how many bytes that took; 0 where there is no room, and nothing is written.
 pub fn print(n: u64, out: &mut [u8]) -> usize
-    ensures { λ r. ⌜ Prints n (now (out .entry)) r (now (out .exit)) ⌝ }
+    ensures { λ r. ⌜ Laid (decimal n) (now (out .entry)) r (now (out .exit)) ⌝ }
 {
     let k = width(n);
     if out.len() < k {

@@ -2,19 +2,19 @@
 -- where a reader stands: `done` are the lines that have ended, `begun` has come of the next one, `rest` is still to come.
 -- `Keeps` says what the buffer holds of the line begun. Assumes nothing.
 use Prim.Native.Nat.{ℕ, zero, suc, _+_, _-_, _≤_, _<_}
-use mathlib.Core.Bool.{Bool, true, false, cond, true≢false}
+use mathlib.Core.Bool.{true, false, cond, true≢false}
 use mathlib.Core.List.{List, [], _∷_, _++_, append-assoc, append-nil}
 use mathlib.Core.Path.{_≡_, refl, sym, ap, _∙_}
 use native.Mathlib.Omega.{arith}
 use lib.Dec.{ltb, eqb}
 use lib.ListN.{length, take, drop, length-append, length-take, length-drop}
-use lib.Seq.{take-all, take-nil, take-append-le, take-at, drop-drop, length-take-le}
+use lib.Seq.{take-all, take-nil, take-at, drop-drop}
 use borrow.Author.Tests.{ltb-true, ltb-false, lt-ltb, eqb-true}
 use Rattle.lines.specs.declared.Taken.{Taken}
-use Rattle.lines.specs.Pieces.{onto, pieces, linesOf, before}
+use Rattle.lines.specs.Pieces.{pieces, linesOf, before}
 use Rattle.lines.specs.Says.{lineSays}
 use Rattle.lines.specs.Framing.{hasEnd, takenOf, keptOf, Takes}
-use Rattle.lines.proofs.PiecesLaws.{before-fits, before-head}
+use Rattle.lines.proofs.PiecesLaws.{before-head}
 use Rattle.lines.proofs.SaysLaws.{over-long}
 
 -- ---- bytes with no line end

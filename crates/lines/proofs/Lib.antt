@@ -5,4 +5,5 @@ pub mod WalkLaws
 pub mod SaysLaws
 pub mod TakeLaws
 pub mod FramingLaws
+pub mod AnswerLaws
 pub mod TableLaws

@@ -1,16 +1,14 @@
 -- The table of document 01, "Input": its bytes are nine lines, and these say what the paper says. The last lacks its line
 -- end. Assumes nothing.
 use Prim.Native.Nat.{ℕ}
-use mathlib.Core.List.{List, [], _∷_, _++_, map}
+use mathlib.Core.List.{List, [], _∷_, map}
 use mathlib.Core.Path.{_≡_, refl}
-use lib.ListN.{length}
 use Rattle.record.specs.declared.Leaf.{Leaf}
 use Rattle.record.specs.declared.Stamp.{Stamp}
-use Rattle.decimal.specs.Digits.{digits, fewest, valueFrom}
+use Rattle.decimal.specs.Digits.{valueFrom}
 use Rattle.decimal.specs.Field.{allDigits, isNumber}
-use Rattle.lines.specs.declared.Line.{Line}
-use Rattle.lines.specs.declared.Line.the-variants.{Unreadable, Size, Insert, Min, Extract, Delete}
-use Rattle.lines.specs.Pieces.{pieces, linesOf, before, same}
+use Rattle.lines.specs.declared.Line.the-variants.{Size, Insert, Min, Extract, Delete}
+use Rattle.lines.specs.Pieces.{pieces, linesOf, same}
 use Rattle.lines.specs.Says.{allNumbers, saidOf, saidBy, lineSays}
 
 abbrev leaf : ℕ → Leaf

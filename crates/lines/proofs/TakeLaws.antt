@@ -1,17 +1,16 @@
 -- Bytes taken into the buffer: the loop that appends, and what is kept of a line. Assumes nothing.
-use Prim.Native.Nat.{ℕ, zero, suc, _+_, _-_, _≤_, _<_, min}
+use Prim.Native.Nat.{ℕ, _+_, _-_, _≤_, _<_, min}
 use mathlib.Core.Bool.{true, false}
-use mathlib.Core.List.{List, [], _∷_, _++_}
+use mathlib.Core.List.{List, _++_}
 use mathlib.Core.Path.{_≡_, refl, sym, ap, _∙_}
 use native.Mathlib.Omega.{arith}
 use native.Mathlib.Numerals.{add-one}
-use lib.Dec.{ltb, leb}
+use lib.Dec.{leb}
 use lib.ListN.{length, getD, take, drop, set, length-set, length-append, length-take, length-drop}
-use lib.Seq.{paste, paste-zero, paste-suc, length-paste, getD-drop, length-take-le, take-all, take-take, take-append-add, drop-paste, take-paste}
+use lib.Seq.{paste, paste-zero, paste-suc, getD-drop, length-take-le, take-all, take-take, take-append-add}
 use borrow.Author.Tests.{leb-true, leb-false, lt-ltb, le-ltb}
-use Rattle.lines.specs.declared.Taken.{Taken}
 use Rattle.lines.specs.Pieces.{before}
-use Rattle.lines.specs.Framing.{hasEnd, takenOf, keptOf, Takes}
+use Rattle.lines.specs.Framing.{keptOf, Takes}
 use Rattle.lines.proofs.PiecesLaws.{before-fits, before-head}
 
 -- ---- the loop that appends

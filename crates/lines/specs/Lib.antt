@@ -3,3 +3,4 @@ pub mod Pieces
 pub mod Says
 pub mod Behind
 pub mod Framing
+pub mod Answer

@@ -11,7 +11,7 @@ ghost use Rattle.lines.specs.Framing.{Takes};
 use crate::Taken;
 use crate::fields;
 
-const LINE_END: u8 = 10;
+pub(crate) const LINE_END: u8 = 10;
 
 fn least(a: usize, b: usize) -> usize
     ensures { λ r. ⌜ r ≡ min a b ⌝ }

@@ -1,9 +1,12 @@
 // What a line of the desk says, how lines are cut out of bytes as they come, and how an answer is printed: document 01,
 // "What the desk sees". Stands on `record` and `decimal`.
+mod answer;
 mod fields;
 mod framing;
 mod says;
 
+pub use answer::print_answer;
+pub use answer::print_unreadable;
 pub use framing::take_line;
 use record::Leaf;
 use record::Stamp;

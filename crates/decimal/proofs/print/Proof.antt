@@ -1,7 +1,7 @@
 -- `decimal::print` meets its contract. The loop: `Spelling`. Assumes nothing.
 use borrow.Author.Needs.{needs}
 use native.Mathlib.Omega.{arith}
-use Rattle.decimal.proofs.PrintLaws.{Spelling, spelling-starts, spelling-turns, spelling-ends, no-room, in-room}
+use Rattle.decimal.proofs.PrintLaws.{Spelling, spelling-starts, spelling-turns, spelling-ends, number-no-room, number-in-room}
 use Rattle.decimal.proofs.print.Statement.{statement}
 use Rattle.decimal.proofs.print.Tie as tie
 
@@ -15,7 +15,7 @@ width-requires : tie.Need-width-requires Inv-loop μ-loop
 width-requires c κs = search needs
 
 returns : tie.Need-returns Inv-loop μ-loop
-returns c = no-room _ _ _ (c .before .width .ensures) (c .if1 .taken)
+returns c = number-no-room _ _ _ (c .before .width .ensures) (c .if1 .taken)
 
 loop-holds : tie.Need-loop-holds Inv-loop μ-loop
 loop-holds c = spelling-starts _ _ _ (c .if1 .left)
@@ -44,7 +44,7 @@ same-length c = c .before .loop .inv .room
 
 returns-2 : tie.Need-returns-2 Inv-loop μ-loop
 returns-2 c =
-    in-room _ _ _ _ (c .before .before .before .width .ensures) (c .before .before .if1 .left) (spelling-ends _ _ _ (c .before .before .if1 .left) _ _ _ (c .before .loop .inv) (c .loop-test .left))
+    number-in-room _ _ _ (c .before .before .before .width .ensures) _ (c .before .before .if1 .left) (spelling-ends _ _ _ (c .before .before .if1 .left) _ _ _ (c .before .loop .inv) (c .loop-test .left))
 
 pub print-spec : {M : Type 1} → statement M
 print-spec =
