@@ -3,7 +3,4 @@ pub mod PiecesLaws
 pub mod NumbersLaws
 pub mod WalkLaws
 pub mod SaysLaws
-pub mod TakeLaws
-pub mod FramingLaws
-pub mod AnswerLaws
 pub mod TableLaws

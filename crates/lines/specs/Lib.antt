@@ -2,5 +2,3 @@
 pub mod Pieces
 pub mod Says
 pub mod Behind
-pub mod Framing
-pub mod Answer

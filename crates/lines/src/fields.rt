@@ -5,12 +5,11 @@ ghost use lib.ListN.{length, drop};
 ghost use Rattle.lines.specs.Pieces.{before};
 ghost use Rattle.lines.specs.Pieces.{same as Pieces·same};
 ghost use Rattle.lines.specs.Behind.{behind, Numbered};
+use crate::SPACE;
 use decimal::Reading;
 
-pub(crate) const SPACE: u8 = 32;
-
-// Where the piece ends that starts at `from`: at the next byte `at`, or with the bytes.
-pub(crate) fn end_of(bytes: &[u8], from: usize, at: u8) -> usize
+// For crates above: where the piece ends that starts at `from`: at the next byte `at`, or with the bytes.
+pub fn end_of(bytes: &[u8], from: usize, at: u8) -> usize
     ensures { λ r. ⌜ r ≡ from + length (before at (drop from (now (bytes .entry)))) ⌝ }
 {
     let mut i = from;

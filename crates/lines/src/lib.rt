@@ -1,13 +1,8 @@
-// What a line of the desk says, how lines are cut out of bytes as they come, and how an answer is printed: document 01,
-// "What the desk sees". Stands on `record` and `decimal`.
-mod answer;
+// What a line of the desk says: document 01, "What the desk sees". Stands on `record` and `decimal`.
 mod fields;
-mod framing;
 mod says;
 
-pub use answer::print_answer;
-pub use answer::print_unreadable;
-pub use framing::take_line;
+pub use fields::end_of;
 use record::Leaf;
 use record::Stamp;
 pub use says::read_line;
@@ -39,10 +34,5 @@ pub enum Line {
 // The most bytes that a line may have, its end not counted.
 pub const LINE_MOST: usize = 128;
 
-// What a call of `take_line` took: the next byte of the chunk to look at, how many bytes of the line are held in the buffer,
-// and whether the line has ended.
-pub struct Taken {
-    pub next: usize,
-    pub held: usize,
-    pub ended: bool,
-}
+// Parts the fields of a line.
+pub const SPACE: u8 = 32;

@@ -6,6 +6,7 @@ ghost use Rattle.lines.specs.Behind.{behind};
 ghost use Rattle.lines.specs.Says.{sizeKind, insertKind, minKind, extractKind, deleteKind, saidOf, lineSays};
 use crate::LINE_MOST;
 use crate::Line;
+use crate::SPACE;
 use crate::fields;
 use record::Leaf;
 use record::Stamp;
@@ -85,7 +86,7 @@ pub fn read_line(line: &[u8]) -> Line
     if line.len() > LINE_MOST {
         return Line::Unreadable;
     }
-    let end = fields::end_of(line, 0, fields::SPACE);
+    let end = fields::end_of(line, 0, SPACE);
     let word = &line[..end];
     if fields::same(word, b"size") {
         return size(line, end);

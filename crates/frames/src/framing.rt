@@ -7,9 +7,9 @@ ghost use mathlib.Core.Path.{_≡_};
 ghost use Prim.Native.Nat.{_+_, _≤_, min};
 ghost use lib.ListN.{length, drop};
 ghost use lib.Seq.{paste};
-ghost use Rattle.lines.specs.Framing.{Takes};
+ghost use Rattle.frames.specs.Framing.{Takes};
 use crate::Taken;
-use crate::fields;
+use lines::end_of;
 
 pub(crate) const LINE_END: u8 = 10;
 
@@ -35,7 +35,7 @@ fn append(buffer: &mut [u8], at: usize, bytes: &[u8], from: usize, n: usize)
 pub fn take_line(buffer: &mut [u8], held: usize, chunk: &[u8], from: usize) -> Taken
     ensures { λ r. ⌜ Takes (now (buffer .entry)) held (now (chunk .entry)) from r (now (buffer .exit)) ⌝ }
 {
-    let end = fields::end_of(chunk, from, LINE_END);
+    let end = end_of(chunk, from, LINE_END);
     let old = least(held, buffer.len());
     let more = least(buffer.len() - old, end - from);
     append(buffer, old, chunk, from, more);

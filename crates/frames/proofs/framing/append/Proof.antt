@@ -1,11 +1,11 @@
--- `lines::framing::append` meets its contract. The loop: `Appending`. Assumes nothing.
+-- `frames::framing::append` meets its contract. The loop: `Appending`. Assumes nothing.
 use borrow.Author.Needs.{needs}
 use native.Mathlib.Omega.{arith}
 use Prim.Native.Nat.{_-_}
 use lib.ListN.{drop, length-drop}
-use Rattle.lines.proofs.TakeLaws.{Appending, appending-starts, appending-turns, appending-ends}
-use Rattle.lines.proofs.framing.append.Statement.{statement}
-use Rattle.lines.proofs.framing.append.Tie as tie
+use Rattle.frames.proofs.TakeLaws.{Appending, appending-starts, appending-turns, appending-ends}
+use Rattle.frames.proofs.framing.append.Statement.{statement}
+use Rattle.frames.proofs.framing.append.Tie as tie
 
 abbrev Inv-loop : tie.InvT-loop
 Inv-loop buffer₀ at bytes from n i₀ buffer i = Appending buffer₀ at (drop from bytes) n i buffer

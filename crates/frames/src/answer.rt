@@ -4,9 +4,9 @@ ghost use mathlib.Core.Bool.{cond};
 ghost use lib.Dec.{leb};
 ghost use lib.ListN.{length};
 ghost use Rattle.decimal.specs.Promises.{Laid};
-ghost use Rattle.lines.specs.Answer.{answerLine, unreadableLine};
-use crate::fields::SPACE;
+ghost use Rattle.frames.specs.Answer.{answerLine, unreadableLine};
 use crate::framing::LINE_END;
+use lines::SPACE;
 
 const QUESTION: u8 = 63;
 

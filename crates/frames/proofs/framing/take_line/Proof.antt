@@ -1,8 +1,8 @@
--- `lines::framing::take_line` meets its contract. What is kept is what was held and what was appended. Assumes nothing.
+-- `frames::framing::take_line` meets its contract. What is kept is what was held and what was appended. Assumes nothing.
 use borrow.Author.Needs.{needs}
-use Rattle.lines.proofs.TakeLaws.{room-for, enough-left, takes-end, takes-all}
-use Rattle.lines.proofs.framing.take_line.Statement.{statement}
-use Rattle.lines.proofs.framing.take_line.Tie as tie
+use Rattle.frames.proofs.TakeLaws.{room-for, enough-left, takes-end, takes-all}
+use Rattle.frames.proofs.framing.take_line.Statement.{statement}
+use Rattle.frames.proofs.framing.take_line.Tie as tie
 
 end-of-requires : tie.Need-end-of-requires
 end-of-requires c κs = search needs

@@ -1,10 +1,10 @@
--- `lines::answer::fits` meets its contract. The loop: `Counting`. Assumes nothing.
+-- `frames::answer::fits` meets its contract. The loop: `Counting`. Assumes nothing.
 use borrow.Author.Needs.{needs}
 use Prim.Native.Nat.{_-_}
 use lib.ListN.{length}
-use Rattle.lines.proofs.AnswerLaws.{Counting, counting-starts, counting-turns, counting-fails, counting-ends}
-use Rattle.lines.proofs.answer.fits.Statement.{statement}
-use Rattle.lines.proofs.answer.fits.Tie as tie
+use Rattle.frames.proofs.AnswerLaws.{Counting, counting-starts, counting-turns, counting-fails, counting-ends}
+use Rattle.frames.proofs.answer.fits.Statement.{statement}
+use Rattle.frames.proofs.answer.fits.Tie as tie
 
 abbrev Inv-loop : tie.InvT-loop
 Inv-loop numbers room left₀ i₀ left i = Counting numbers room i left

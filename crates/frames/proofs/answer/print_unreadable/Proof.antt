@@ -1,8 +1,8 @@
--- `lines::answer::print_unreadable` meets its contract. Two bytes, or nothing. Assumes nothing.
+-- `frames::answer::print_unreadable` meets its contract. Two bytes, or nothing. Assumes nothing.
 use borrow.Author.Needs.{needs}
-use Rattle.lines.proofs.AnswerLaws.{unreadable-unfit, unreadable-written}
-use Rattle.lines.proofs.answer.print_unreadable.Statement.{statement}
-use Rattle.lines.proofs.answer.print_unreadable.Tie as tie
+use Rattle.frames.proofs.AnswerLaws.{unreadable-unfit, unreadable-written}
+use Rattle.frames.proofs.answer.print_unreadable.Statement.{statement}
+use Rattle.frames.proofs.answer.print_unreadable.Tie as tie
 
 returns : tie.Need-returns
 returns c = unreadable-unfit _ (c .if1 .taken)

@@ -6,8 +6,8 @@ use mathlib.Core.List.{List, _++_}
 use mathlib.Core.Path.{_≡_}
 use lib.Dec.{ltb}
 use lib.ListN.{length, take, drop}
-use Rattle.lines.specs.declared.Taken.{Taken}
+use Rattle.frames.specs.declared.Taken.{Taken}
 use Rattle.lines.specs.Pieces.{before}
 
 -- whether there is a byte 10 behind what stands before the first one
 abbrev pub hasEnd : List ℕ → Bool

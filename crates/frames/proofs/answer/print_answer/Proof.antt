@@ -1,13 +1,13 @@
--- `lines::answer::print_answer` meets its contract. The loop: `Writing`. Assumes nothing.
+-- `frames::answer::print_answer` meets its contract. The loop: `Writing`. Assumes nothing.
 use borrow.Author.Needs.{needs}
 use native.Mathlib.Omega.{arith}
 use Prim.Native.Nat.{_-_}
 use mathlib.Core.Path.{sym, _∙_}
 use lib.ListN.{length}
 use borrow.Author.Tests.{not-true, not-false}
-use Rattle.lines.proofs.AnswerLaws.{Writing, writing-starts, writing-ends, next-fits, next-within, next-turn, unfit}
-use Rattle.lines.proofs.answer.print_answer.Statement.{statement}
-use Rattle.lines.proofs.answer.print_answer.Tie as tie
+use Rattle.frames.proofs.AnswerLaws.{Writing, writing-starts, writing-ends, next-fits, next-within, next-turn, unfit}
+use Rattle.frames.proofs.answer.print_answer.Statement.{statement}
+use Rattle.frames.proofs.answer.print_answer.Tie as tie
 
 abbrev Inv-loop : tie.InvT-loop
 Inv-loop numbers out₀ at₀ i₀ out at i = Writing numbers out₀ i at out

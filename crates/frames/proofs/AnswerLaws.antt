@@ -13,7 +13,7 @@ use borrow.Author.Tests.{leb-true, leb-false, le-leb, lt-leb, ltb-true, ltb-fals
 use Rattle.decimal.specs.Digits.{widthOf, decimal}
 use Rattle.decimal.specs.Promises.{Laid}
 use Rattle.decimal.proofs.PrintLaws.{no-room, in-room, laid-in-room, decimal-length}
-use Rattle.lines.specs.Answer.{markOf, answerLine, unreadableLine}
+use Rattle.frames.specs.Answer.{markOf, answerLine, unreadableLine}
 
 -- ---- the line from place i on, its first number apart
 module _ (numbers : List ℕ) (i : ℕ) where

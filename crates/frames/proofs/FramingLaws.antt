@@ -10,12 +10,12 @@ use lib.Dec.{ltb, eqb}
 use lib.ListN.{length, take, drop, length-append, length-take, length-drop}
 use lib.Seq.{take-all, take-nil, take-at, drop-drop}
 use borrow.Author.Tests.{ltb-true, ltb-false, lt-ltb, eqb-true}
-use Rattle.lines.specs.declared.Taken.{Taken}
+use Rattle.frames.specs.declared.Taken.{Taken}
 use Rattle.lines.specs.Pieces.{pieces, linesOf, before}
 use Rattle.lines.specs.Says.{lineSays}
-use Rattle.lines.specs.Framing.{hasEnd, takenOf, keptOf, Takes}
+use Rattle.frames.specs.Framing.{hasEnd, takenOf, keptOf, Takes}
 use Rattle.lines.proofs.PiecesLaws.{before-head}
 use Rattle.lines.proofs.SaysLaws.{over-long}
 
 -- ---- bytes with no line end
 -- no byte 10 is among these
