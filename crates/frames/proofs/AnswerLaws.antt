@@ -42,10 +42,11 @@ module _ (numbers : List ℕ) (i : ℕ) where
 -- ---- its length counted down
 pub record Counting (numbers : List ℕ) (room i left : ℕ) : Type 0 where
   pub place : i ≤ length numbers
+  pub less : left ≤ room
   pub same : leb (length (answerLine numbers)) room ≡ leb (length (answerLine (drop i numbers))) left
 
 pub counting-starts : (numbers : List ℕ) (room : ℕ) → Counting numbers room 0 room
-counting-starts numbers room = record { place = omega arith; same = refl }
+counting-starts numbers room = record { place = omega arith; less = omega arith; same = refl }
 
 same-test : (a b c d : ℕ) → (a ≤ b → c ≤ d) → (b < a → d < c) → leb a b ≡ leb c d
 same-test a b c d yes-too no-too = (elim (leb a b) as (λ t. leb a b ≡ t → t ≡ leb c d) [
@@ -55,15 +56,16 @@ same-test a b c d yes-too no-too = (elim (leb a b) as (λ t. leb a b ≡ t → t
 
 module _ (numbers : List ℕ) (room i left : ℕ) (c : Counting numbers room i left) where
   module _ (l : i < length numbers) (width : ℕ) (w : width ≡ widthOf (getD numbers i 0)) where
-    pub counting-turns : width < left → Counting numbers room (i + 1) (left - width - 1)
+    pub counting-turns : width < left → Counting numbers room (i + 1) (left - (width + 1))
     counting-turns m =
         let n = length-next numbers i l in
         record {
           place = omega arith;
+          less = omega (arith, c .less);
           same =
               c .same
               ∙ same-test (length (answerLine (drop i numbers))) left (length (answerLine (drop (i + 1) numbers)))
-              (left - width - 1) (λ h. omega arith) (λ h. omega arith);
+              (left - (width + 1)) (λ h. omega arith) (λ h. omega arith);
         }
 
     pub counting-fails : left ≤ width → false ≡ leb (length (answerLine numbers)) room

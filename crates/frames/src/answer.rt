@@ -21,7 +21,7 @@ fn fits(numbers: &[u64], room: usize) -> bool
         if left <= width {
             return false;
         }
-        left = left - width - 1;
+        left = left - (width + 1);
         i += 1;
     }
     true

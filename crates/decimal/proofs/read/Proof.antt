@@ -15,7 +15,7 @@ abbrev μ-loop : tie.MeasureT-loop
 μ-loop field n₀ i₀ n i = length field - i
 
 returns : tie.Need-returns Inv-loop μ-loop
-returns c = refused-empty _ (c .if1 .taken)
+returns c = refused-empty (c .before .before .args .field .now) (omega arith)
 
 leading-zero-requires : tie.Need-leading-zero-requires Inv-loop μ-loop
 leading-zero-requires c κs = search needs
@@ -65,7 +65,7 @@ loop-again c =
 
 returns-6 : tie.Need-returns-6 Inv-loop μ-loop
 returns-6 c =
-    scanning-ends _ _ _ (c .before .loop .inv) (c .loop-test .left) (c .before .before .before .before .if1 .left) (sym (c .before .before .before .leading-zero .ensures) ∙ c .before .before .if2 .left)
+    scanning-ends _ _ _ (c .before .loop .inv) (c .loop-test .left) (λ e. omega arith) (sym (c .before .before .before .leading-zero .ensures) ∙ c .before .before .if2 .left)
 
 pub read-spec : {M : Type 1} → statement M
 read-spec =

@@ -1,5 +1,6 @@
 -- `frames::answer::fits` meets its contract. The loop: `Counting`. Assumes nothing.
 use borrow.Author.Needs.{needs}
+use native.Mathlib.Omega.{arith}
 use Prim.Native.Nat.{_-_}
 use lib.ListN.{length}
 use Rattle.frames.proofs.AnswerLaws.{Counting, counting-starts, counting-turns, counting-fails, counting-ends}
@@ -26,13 +27,13 @@ width-requires c κs = search needs
 
 returns : tie.Need-returns Inv-loop μ-loop
 returns c =
-    counting-fails _ _ _ _ (c .before .before .before .before .loop .inv) (c .before .before .before .loop-test .taken) _ (c .before .width .ensures) (c .if1 .taken)
+    counting-fails _ _ _ _ (c .before .before .before .before .loop .inv) (c .before .before .before .loop-test .taken) _ (c .before .width .ensures) (omega arith)
+
+add-left : tie.Need-add-left Inv-loop μ-loop
+add-left c = omega (arith, c .before .before .before .before .loop .inv)
 
 sub-left : tie.Need-sub-left Inv-loop μ-loop
 sub-left c = search needs
-
-sub-left-2 : tie.Need-sub-left-2 Inv-loop μ-loop
-sub-left-2 c = search needs
 
 add-i : tie.Need-add-i Inv-loop μ-loop
 add-i c = search needs
@@ -42,7 +43,7 @@ loop-less c = search needs
 
 loop-again : tie.Need-loop-again Inv-loop μ-loop
 loop-again c =
-    counting-turns _ _ _ _ (c .before .before .before .before .loop .inv) (c .before .before .before .loop-test .taken) _ (c .before .width .ensures) (c .if1 .left)
+    counting-turns _ _ _ _ (c .before .before .before .before .loop .inv) (c .before .before .before .loop-test .taken) _ (c .before .width .ensures) (omega arith)
 
 returns-2 : tie.Need-returns-2 Inv-loop μ-loop
 returns-2 c = counting-ends _ _ _ _ (c .before .loop .inv) (c .loop-test .left)
@@ -58,8 +59,8 @@ fits-spec =
     shared-slice-read-width
     width-requires
     returns
+    add-left
     sub-left
-    sub-left-2
     add-i
     loop-less
     loop-again

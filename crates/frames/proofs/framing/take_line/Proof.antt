@@ -1,5 +1,6 @@
 -- `frames::framing::take_line` meets its contract. What is kept is what was held and what was appended. Assumes nothing.
 use borrow.Author.Needs.{needs}
+use native.Mathlib.Omega.{arith}
 use Rattle.frames.proofs.TakeLaws.{room-for, enough-left, takes-end, takes-all}
 use Rattle.frames.proofs.framing.take_line.Statement.{statement}
 use Rattle.frames.proofs.framing.take_line.Tie as tie
@@ -22,7 +23,7 @@ least-requires-2 c κs = search needs
 append-requires : tie.Need-append-requires
 append-requires c κs =
     let a = c .before .before .before .before .before .before .args in
-    (room-for (a .buffer .now) (a .held) (a .chunk .now) (a .from) _ _ _ (c .before .before .before .end-of .ensures) (c .before .before .least .ensures) (c .before .least2 .ensures), enough-left (a .buffer .now) (a .held) (a .chunk .now) (a .from) _ _ _ (c .before .before .before .end-of .ensures) (c .before .before .least .ensures) (c .before .least2 .ensures))
+    (omega (arith, room-for (a .buffer .now) (a .held) (a .chunk .now) (a .from) _ _ _ (c .before .before .before .end-of .ensures) (c .before .before .least .ensures) (c .before .least2 .ensures)), enough-left (a .buffer .now) (a .held) (a .chunk .now) (a .from) _ _ _ (c .before .before .before .end-of .ensures) (c .before .before .least .ensures) (c .before .least2 .ensures))
 
 add-t15 : tie.Need-add-t15
 add-t15 c = search needs

@@ -1,5 +1,6 @@
 -- `lines::says::read_line` meets its contract. A word after the other is compared; `not-insert` is what is left to say where the word is neither `size` nor `insert`. Assumes nothing.
 use borrow.Author.Needs.{needs}
+use native.Mathlib.Omega.{arith}
 use mathlib.Core.List.{[], _∷_}
 use mathlib.Core.Path.{_≡_, sym, _∙_}
 use lib.ListN.{take, drop}
@@ -16,7 +17,7 @@ fits : (c : tie.After-end-of) → c .end-of .result ≤ length (c .before .befor
 fits c = word-fits _ _ (c .end-of .ensures)
 
 by-any : (c : tie.After-end-of) → let line = c .before .before .before .args .line .now in let end = c .end-of .result in lineSays line ≡ saidBy kinds (take end line) (behind (drop end line))
-by-any c = line-said _ _ (c .end-of .ensures) (c .before .if1 .left)
+by-any c = line-said (c .before .before .before .args .line .now) _ (c .end-of .ensures) (omega arith)
 
 not-size : (c : tie.Else2) → let line = c .before .before .before .before .before .before .before .args .line .now in let end = c .before .before .before .before .end-of .result in lineSays line ≡ saidBy (insertKind ∷ minKind ∷ extractKind ∷ deleteKind ∷ []) (take end line) (behind (drop end line))
 not-size c = by-any (c .before .before .before .before) ∙ said-later sizeKind _ _ _ (sym (c .before .same .ensures) ∙ c .if2 .left)
@@ -34,7 +35,7 @@ not-delete : (c : tie.Else6) → let line = c .before .before .before .before .b
 not-delete c = not-extract (c .before .before .before) ∙ said-later deleteKind _ _ _ (sym (c .before .same5 .ensures) ∙ c .if6 .left)
 
 returns : tie.Need-returns
-returns c = over-long _ (c .if1 .taken)
+returns c = over-long (c .before .before .args .line .now) (omega arith)
 
 end-of-requires : tie.Need-end-of-requires
 end-of-requires c κs = search needs
