@@ -1,6 +1,6 @@
 -- Bytes taken into the buffer: the loop that appends, and what is kept of a line. Assumes nothing.
 use Prim.Native.Nat.{ℕ, _+_, _-_, _≤_, _<_, min}
-use mathlib.Core.Bool.{true, false}
+use mathlib.Core.Bool.{true, false, cond}
 use mathlib.Core.List.{List, _++_}
 use mathlib.Core.Path.{_≡_, refl, sym, ap, _∙_}
 use native.Mathlib.Omega.{arith}
@@ -8,9 +8,10 @@ use native.Mathlib.Numerals.{add-one}
 use lib.Dec.{leb}
 use lib.ListN.{length, getD, take, drop, set, length-set, length-append, length-take, length-drop}
 use lib.Seq.{paste, paste-zero, paste-suc, getD-drop, length-take-le, take-all, take-take, take-append-add}
-use borrow.Author.Tests.{leb-true, leb-false, lt-ltb, le-ltb}
+use borrow.Author.Tests.{leb-true, leb-false, lt-ltb, le-ltb, ltb-true, ltb-false}
 use Rattle.lines.specs.Pieces.{before}
-use Rattle.frames.specs.Framing.{keptOf, Takes}
+use Rattle.frames.specs.declared.Taken.{Taken}
+use Rattle.frames.specs.Framing.{hasEnd, keptOf, Takes}
 use Rattle.lines.proofs.PiecesLaws.{before-fits, before-head}
 
 -- ---- the loop that appends
@@ -120,3 +121,22 @@ module _
             held = kept-length;
             lent = after-is;
           }
+
+-- ---- what a caller's loop needs to know
+module _ (buffer : List ℕ) (held : ℕ) (chunk : List ℕ) (from : ℕ) (r : Taken) (after : List ℕ) (t : Takes buffer held chunk from r after) where
+  pub takes-within : r .held ≤ length buffer
+  takes-within =
+      omega (arith, t .held, length-take (length buffer) (take held buffer ++ before 10 (drop from chunk)))
+
+  pub takes-some : from < length chunk → (from < r .next) × (r .next ≤ length chunk)
+  takes-some l = (elim (hasEnd (drop from chunk)) as (λ b. hasEnd (drop from chunk) ≡ b → r .next ≡ from + (length (before 10 (drop from chunk)) + cond b 1 0) → (from < r .next) × (r .next ≤ length chunk)) [
+    | true ↦ λ e n.
+        let m = ltb-true (length (before 10 (drop from chunk))) (length (drop from chunk)) e in
+        let size = length-drop from chunk in
+        (omega arith, omega arith)
+    | false ↦ λ e n.
+        let m = ltb-false (length (before 10 (drop from chunk))) (length (drop from chunk)) e in
+        let fit = before-fits 10 (drop from chunk) in
+        let size = length-drop from chunk in
+        (omega arith, omega arith)
+  ]) refl (t .next)
