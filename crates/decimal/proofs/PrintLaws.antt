@@ -6,9 +6,9 @@ use mathlib.Core.List.{List, _++_}
 use mathlib.Core.Path.{_≡_, refl, sym, ap, _∙_}
 use native.Mathlib.Omega.{arith}
 use native.Mathlib.Nat.{div-one}
-use lib.ListN.{length, take, drop, set, length-set, take-append-drop, drop-of-length-le}
+use lib.ListN.{length, take, drop, set, length-append, length-set, take-append-drop, drop-of-length-le}
 use lib.Seq.{length-take-le, take-set-lt, drop-set-lt, drop-cons, getD-set-same}
-use borrow.Author.Tests.{le-leb, lt-leb, leb-true}
+use borrow.Author.Tests.{le-leb, lt-leb}
 use Rattle.decimal.specs.Digits.{digits, widthOf, decimal}
 use Rattle.decimal.specs.Promises.{hasRoom, Laid}
 use Rattle.decimal.proofs.ValueLaws.{shorter}
@@ -107,8 +107,8 @@ laid-in-room bytes old k now p l =
 pub decimal-length : (n : ℕ) → length (decimal n) ≡ widthOf n
 decimal-length n = digits-length (widthOf n) n
 
-pub laid-within : (bytes old : List ℕ) (k : ℕ) (now : List ℕ) → Laid bytes old k now → k ≤ length old
-laid-within bytes old k now p = (elim (hasRoom bytes old) as (λ t. hasRoom bytes old ≡ t → k ≡ cond t (length bytes) 0 → k ≤ length old) [
-  | true ↦ λ e c. omega (arith, leb-true (length bytes) (length old) e)
-  | false ↦ λ e c. omega arith
-]) refl (p .counted)
+pub laid-within : (bytes old : List ℕ) (k : ℕ) (now : List ℕ) → Laid bytes old k now → k ≤ length now
+laid-within bytes old k now p = (elim (hasRoom bytes old) as (λ t. k ≡ cond t (length bytes) 0 → now ≡ cond t (bytes ++ drop (length bytes) old) old → k ≤ length now) [
+  | true ↦ λ c n. rw (n, length-append) (omega arith)
+  | false ↦ λ c n. omega arith
+]) (p .counted) (p .lent)

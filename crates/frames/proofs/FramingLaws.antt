@@ -16,6 +16,7 @@ use Rattle.lines.specs.Says.{lineSays}
 use Rattle.frames.specs.Framing.{hasEnd, takenOf, keptOf, Takes}
 use Rattle.lines.proofs.PiecesLaws.{before-head}
 use Rattle.lines.proofs.SaysLaws.{over-long}
+use Rattle.frames.proofs.TakeLaws.{takes-room}
 
 -- ---- bytes with no line end
 -- no byte 10 is among these

@@ -128,6 +128,9 @@ module _ (buffer : List ℕ) (held : ℕ) (chunk : List ℕ) (from : ℕ) (r : T
   takes-within =
       omega (arith, t .held, length-take (length buffer) (take held buffer ++ before 10 (drop from chunk)))
 
+  pub takes-room : length after ≡ length buffer
+  takes-room = rw (t .lent, length-append, length-drop (r .held) buffer) (omega (arith, t .held, takes-within))
+
   pub takes-some : from < length chunk → (from < r .next) × (r .next ≤ length chunk)
   takes-some l = (elim (hasEnd (drop from chunk)) as (λ b. hasEnd (drop from chunk) ≡ b → r .next ≡ from + (length (before 10 (drop from chunk)) + cond b 1 0) → (from < r .next) × (r .next ≤ length chunk)) [
     | true ↦ λ e n.
