@@ -1,6 +1,6 @@
--- Lines cut out of bytes as they come are the lines of the whole input, however the bytes are parted into chunks. `Framed` says
--- where a reader stands: `done` are the lines that have ended, `begun` has come of the next one, `rest` is still to come.
--- `Keeps` says what the buffer holds of the line begun. Assumes nothing.
+-- Lines cut out of bytes as they come are the lines of the whole input, however the bytes are parted into chunks: a chunk after
+-- another ends the lines that both end together, and in the end these are the lines of the input. `Keeps` says what the buffer
+-- holds of the line begun. Assumes nothing.
 use Prim.Native.Nat.{ℕ, zero, suc, _+_, _-_, _≤_, _<_}
 use mathlib.Core.Bool.{true, false, cond, true≢false}
 use mathlib.Core.List.{List, [], _∷_, _++_, append-assoc, append-nil}
@@ -13,20 +13,14 @@ use borrow.Author.Tests.{ltb-true, ltb-false, lt-ltb, eqb-true}
 use Rattle.frames.specs.declared.Taken.{Taken}
 use Rattle.lines.specs.Pieces.{pieces, linesOf, before}
 use Rattle.lines.specs.Says.{lineSays}
-use Rattle.frames.specs.Framing.{hasEnd, takenOf, keptOf, Takes}
+use Rattle.frames.specs.Framing.{endedIn, begunBy, lastOf, hasEnd, takenOf, keptOf, Takes}
 use Rattle.lines.proofs.PiecesLaws.{before-head}
 use Rattle.lines.proofs.SaysLaws.{over-long}
-use Rattle.frames.proofs.TakeLaws.{takes-room}
 
 -- ---- bytes with no line end
 -- no byte 10 is among these
 abbrev pub Free : List ℕ → Type 0
 Free bytes = before 10 bytes ≡ bytes
-
--- the line that bytes with no line end are, if they are one
-abbrev pub lastOf : List ℕ → List (List ℕ)
-lastOf [] = []
-lastOf (b ∷ bs) = (b ∷ bs) ∷ []
 
 record FreeHead (b : ℕ) (bs : List ℕ) : Type 0 where
   other : eqb b 10 ≡ false
@@ -90,56 +84,108 @@ ended (b ∷ bs) = (elim (eqb b 10) as (λ t. eqb b 10 ≡ t → ltb (length (co
       ap (λ (l : List ℕ). b ∷ l) (ended bs inner)
 ]) refl
 
--- ---- where a reader of the input stands
-pub record Framed (input : List ℕ) (done : List (List ℕ)) (begun rest : List ℕ) : Type 0 where
-  pub lines : linesOf input ≡ done ++ linesOf (begun ++ rest)
-  pub free : Free begun
+-- ---- the lines that end in some bytes
+-- a chunk behind another
+pub ended-joined :
+    (begun xs ys : List ℕ) → endedIn begun (xs ++ ys) ≡ endedIn begun xs ++ endedIn (begunBy begun xs) ys
+unfolding endedIn begunBy
+ended-joined begun [] ys = refl
+ended-joined begun (x ∷ xs) ys = (elim (eqb x 10) as (λ t. cond t (begun ∷ endedIn [] (xs ++ ys)) (endedIn (begun ++ x ∷ []) (xs ++ ys)) ≡ cond t (begun ∷ endedIn [] xs) (endedIn (begun ++ x ∷ []) xs) ++ endedIn (cond t (begunBy [] xs) (begunBy (begun ++ x ∷ []) xs)) ys) [
+  | true ↦ ap (λ (l : List (List ℕ)). begun ∷ l) (ended-joined [] xs ys)
+  | false ↦ ended-joined (begun ++ x ∷ []) xs ys
+])
 
-pub framed-starts : (input : List ℕ) → Framed input [] [] input
+pub begun-joined : (begun xs ys : List ℕ) → begunBy begun (xs ++ ys) ≡ begunBy (begunBy begun xs) ys
+unfolding begunBy
+begun-joined begun [] ys = refl
+begun-joined begun (x ∷ xs) ys = (elim (eqb x 10) as (λ t. cond t (begunBy [] (xs ++ ys)) (begunBy (begun ++ x ∷ []) (xs ++ ys)) ≡ begunBy (cond t (begunBy [] xs) (begunBy (begun ++ x ∷ []) xs)) ys) [
+  | true ↦ begun-joined [] xs ys
+  | false ↦ begun-joined (begun ++ x ∷ []) xs ys
+])
+
+-- the whole input
+lines-heard : (begun bs : List ℕ) → Free begun → linesOf (begun ++ bs) ≡ endedIn begun bs ++ lastOf (begunBy begun bs)
+unfolding endedIn begunBy before
+lines-heard begun [] f = rw (append-nil, lines-open begun f)
+lines-heard begun (b ∷ bs) f = (elim (eqb b 10) as (λ t. eqb b 10 ≡ t → linesOf (begun ++ b ∷ bs) ≡ cond t (begun ∷ endedIn [] bs) (endedIn (begun ++ b ∷ []) bs) ++ lastOf (cond t (begunBy [] bs) (begunBy (begun ++ b ∷ []) bs))) [
+  | true ↦ λ e.
+      rw (eqb-true b 10 e)
+      (lines-ended begun bs f ∙ ap (λ (l : List (List ℕ)). begun ∷ l) (lines-heard [] bs refl))
+  | false ↦ λ e.
+      ap linesOf (sym (append-assoc begun (b ∷ []) bs))
+      ∙ lines-heard (begun ++ b ∷ []) bs (free-append begun (b ∷ []) f (rw e))
+]) refl
+
+pub input-heard : (input : List ℕ) → linesOf input ≡ endedIn [] input ++ lastOf (begunBy [] input)
 unfolding before
-framed-starts input = record { lines = refl; free = refl }
+input-heard input = lines-heard [] input refl
 
--- at the end of the input
-pub framed-ends : (input : List ℕ) (done : List (List ℕ)) (begun : List ℕ) → Framed input done begun [] → linesOf input ≡ done ++ lastOf begun
-framed-ends input done begun f = f .lines ∙ rw (append-nil, lines-open begun (f .free))
+-- up to the first line end
+ended-first : (begun xs ys : List ℕ) → Free xs → endedIn begun (xs ++ 10 ∷ ys) ≡ (begun ++ xs) ∷ endedIn [] ys
+unfolding endedIn
+ended-first begun [] ys f = rw append-nil
+ended-first begun (x ∷ xs) ys f =
+    let h = free-head x xs f in
+    rw (h .other) (ended-first (begun ++ x ∷ []) xs ys (h .rest) ∙ rw append-assoc)
 
+begun-first : (begun xs ys : List ℕ) → Free xs → begunBy begun (xs ++ 10 ∷ ys) ≡ begunBy [] ys
+unfolding begunBy
+begun-first begun [] ys f = refl
+begun-first begun (x ∷ xs) ys f =
+    let h = free-head x xs f in
+    rw (h .other) (begun-first (begun ++ x ∷ []) xs ys (h .rest))
+
+ended-none : (begun xs : List ℕ) → Free xs → endedIn begun xs ≡ []
+unfolding endedIn
+ended-none begun [] f = refl
+ended-none begun (x ∷ xs) f =
+    let h = free-head x xs f in
+    rw (h .other) (ended-none (begun ++ x ∷ []) xs (h .rest))
+
+begun-none : (begun xs : List ℕ) → Free xs → begunBy begun xs ≡ begun ++ xs
+unfolding begunBy
+begun-none begun [] f = sym (append-nil begun)
+begun-none begun (x ∷ xs) f =
+    let h = free-head x xs f in
+    rw (h .other) (begun-none (begun ++ x ∷ []) xs (h .rest) ∙ append-assoc begun (x ∷ []) xs)
+
+-- what a call of `take_line` does
 module _
-    (input : List ℕ) (done : List (List ℕ)) (begun chunk later : List ℕ) (from : ℕ)
-    (f : Framed input done begun (drop from chunk ++ later))
-    (buffer after : List ℕ) (held : ℕ) (r : Taken)
+    (begun chunk : List ℕ) (from : ℕ) (buffer after : List ℕ) (held : ℕ) (r : Taken)
     (t : Takes buffer held chunk from r after)
   where
-    -- the line has ended
-    pub framed-line :
-        r .ended ≡ true
-        → Framed input (done ++ (begun ++ before 10 (drop from chunk)) ∷ []) [] (drop (r .next) chunk ++ later)
-    unfolding before
-    framed-line e =
-        let bs = drop from chunk in
-        let has : hasEnd bs ≡ true = sym (t .ended) ∙ e in
-        let n : takenOf bs ≡ suc (length (before 10 bs)) = rw has (omega arith) in
-        let past : drop (r .next) chunk ≡ drop (suc (length (before 10 bs))) bs = rw (t .next, n) (sym (drop-drop (suc (length (before 10 bs))) from chunk)) in
-        let parted : begun ++ (bs ++ later) ≡ (begun ++ before 10 bs) ++ 10 ∷ (drop (suc (length (before 10 bs))) bs ++ later) =
-        ap (λ (l : List ℕ). begun ++ (l ++ later)) (ended bs has) ∙ simp append-assoc in
-        record {
-          lines =
-              f .lines
-              ∙ ap (λ (l : List ℕ). done ++ linesOf l) parted
-              ∙ ap (λ (l : List (List ℕ)). done ++ l)
-              (lines-ended (begun ++ before 10 bs) _ (free-append begun (before 10 bs) (f .free) (free-before bs)))
-              ∙ rw past (simp append-assoc);
-          free = refl;
-        }
+    module _ (e : r .ended ≡ true) where
+      has : hasEnd (drop from chunk) ≡ true
+      has = sym (t .ended) ∙ e
 
-    -- the chunk has ended before the line
-    pub framed-open : r .ended ≡ false → Framed input done (begun ++ before 10 (drop from chunk)) later
-    framed-open e =
-        let bs = drop from chunk in
-        let all = unended bs (sym (t .ended) ∙ e) in
-        record {
-          lines = f .lines ∙ rw (all, append-assoc);
-          free = free-append begun (before 10 bs) (f .free) (free-before bs);
-        }
+      past : drop (r .next) chunk ≡ drop (suc (length (before 10 (drop from chunk)))) (drop from chunk)
+      past =
+          let n : takenOf (drop from chunk) ≡ suc (length (before 10 (drop from chunk))) = rw has (omega arith) in
+          rw (t .next, n) (sym (drop-drop (suc (length (before 10 (drop from chunk)))) from chunk))
+
+      pub line-ended :
+          endedIn begun (drop from chunk)
+          ≡ (begun ++ before 10 (drop from chunk)) ∷ endedIn [] (drop (r .next) chunk)
+      line-ended =
+          ap (endedIn begun) (ended (drop from chunk) has)
+          ∙ ended-first begun (before 10 (drop from chunk)) _ (free-before (drop from chunk))
+          ∙ rw past
+
+      pub line-gone : begunBy begun (drop from chunk) ≡ begunBy [] (drop (r .next) chunk)
+      line-gone =
+          ap (begunBy begun) (ended (drop from chunk) has)
+          ∙ begun-first begun (before 10 (drop from chunk)) _ (free-before (drop from chunk))
+          ∙ rw past
+
+    module _ (e : r .ended ≡ false) where
+      all : before 10 (drop from chunk) ≡ drop from chunk
+      all = unended (drop from chunk) (sym (t .ended) ∙ e)
+
+      pub none-ended : endedIn begun (drop from chunk) ≡ []
+      none-ended = ended-none begun (drop from chunk) all
+
+      pub line-goes-on : begunBy begun (drop from chunk) ≡ begun ++ before 10 (drop from chunk)
+      line-goes-on = begun-none begun (drop from chunk) all ∙ rw all
 
 -- ---- what the buffer holds of the line begun
 pub record Keeps (buffer : List ℕ) (held : ℕ) (begun : List ℕ) : Type 0 where

@@ -2,12 +2,27 @@
 -- line may lack its line end". Assumes nothing.
 use Prim.Native.Nat.{ℕ, _+_}
 use mathlib.Core.Bool.{Bool, cond}
-use mathlib.Core.List.{List, _++_}
+use mathlib.Core.List.{List, [], _∷_, _++_}
 use mathlib.Core.Path.{_≡_}
-use lib.Dec.{ltb}
+use lib.Dec.{ltb, eqb}
 use lib.ListN.{length, take, drop}
 use Rattle.frames.specs.declared.Taken.{Taken}
 use Rattle.lines.specs.Pieces.{before}
+
+-- the lines that end in these bytes, where `begun` has come of the first one before
+unfoldable pub endedIn : List ℕ → List ℕ → List (List ℕ)
+endedIn begun [] = []
+endedIn begun (b ∷ bs) = cond (eqb b 10) (begun ∷ endedIn [] bs) (endedIn (begun ++ b ∷ []) bs)
+
+-- and what has come of the next one behind them
+unfoldable pub begunBy : List ℕ → List ℕ → List ℕ
+begunBy begun [] = begun
+begunBy begun (b ∷ bs) = cond (eqb b 10) (begunBy [] bs) (begunBy (begun ++ b ∷ []) bs)
+
+-- at the end of the input, what has begun is a line only if it is not empty
+abbrev pub lastOf : List ℕ → List (List ℕ)
+lastOf [] = []
+lastOf (b ∷ bs) = (b ∷ bs) ∷ []
 
 -- whether there is a byte 10 behind what stands before the first one
 abbrev pub hasEnd : List ℕ → Bool
