@@ -7,7 +7,7 @@ use mathlib.Core.List.{List, [], _∷_, _++_, append-assoc, append-nil}
 use mathlib.Core.Path.{_≡_, refl, sym, ap, _∙_}
 use native.Mathlib.Omega.{arith}
 use lib.Dec.{ltb, eqb}
-use lib.ListN.{length, take, drop, length-append, length-take, length-drop}
+use lib.ListN.{length, take, drop, length-take}
 use lib.Seq.{take-all, take-nil, take-at, drop-drop}
 use borrow.Author.Tests.{ltb-true, ltb-false, lt-ltb, eqb-true}
 use Rattle.frames.specs.declared.Taken.{Taken}
@@ -16,6 +16,7 @@ use Rattle.lines.specs.Says.{lineSays}
 use Rattle.frames.specs.Framing.{endedIn, begunBy, lastOf, hasEnd, takenOf, keptOf, Takes}
 use Rattle.lines.proofs.PiecesLaws.{before-head}
 use Rattle.lines.proofs.SaysLaws.{over-long}
+use Rattle.frames.proofs.TakeLaws.{takes-within, takes-room}
 
 -- ---- bytes with no line end
 -- no byte 10 is among these
@@ -208,11 +209,9 @@ module _ (buffer : List ℕ) (held : ℕ) (begun : List ℕ) (k : Keeps buffer h
   keeps-more chunk from r after t =
       let bs = drop from chunk in
       let kept = keptOf (length buffer) (take held buffer) bs in
-      let short : length kept ≤ length buffer = omega (arith, length-take (length buffer) (take held buffer ++ before 10 bs)) in
-      let size : length after ≡ length buffer =
-      rw (t .lent, length-append, length-drop (r .held) buffer) (omega (arith, t .held)) in
+      let size = takes-room buffer held chunk from r after t in
       record {
-        within = omega (arith, t .held);
+        within = omega (arith, size, takes-within buffer held chunk from r after t);
         head =
             rw (t .lent, take-at kept (drop (r .held) buffer) (r .held) (sym (t .held)), ← t .lent, size, k .head)
             (take-twice (length buffer) begun (before 10 bs));
