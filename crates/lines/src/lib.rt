@@ -1,0 +1,38 @@
+// What a line of the desk says: document 01, "What the desk sees". Stands on `record` and `decimal`.
+mod fields;
+mod says;
+
+pub use fields::end_of;
+use record::Leaf;
+use record::Stamp;
+pub use says::read_line;
+
+// What a line says. Leaves and stamps are as they were written: a number out of range is refused by the card.
+pub enum Line {
+    Unreadable,
+    Size {
+        h: u64,
+        z: u64,
+        r: u64,
+        t: u64,
+    },
+    Insert {
+        key: u64,
+        value: u64,
+        label: Leaf,
+        first: Leaf,
+        second: Leaf,
+    },
+    Min,
+    Extract,
+    Delete {
+        label: Leaf,
+        stamp: Stamp,
+    },
+}
+
+// The most bytes that a line may have, its end not counted.
+pub const LINE_MOST: usize = 128;
+
+// Parts the fields of a line.
+pub const SPACE: u8 = 32;
