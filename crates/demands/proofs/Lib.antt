@@ -1,0 +1,6 @@
+-- Laws of the demands that crates above cite.
+pub mod QueueLaws
+pub mod AnswerLaws
+pub mod StepLaws
+pub mod FinishLaws
+pub mod Demand2
