@@ -4,3 +4,4 @@ pub mod AnswerLaws
 pub mod StepLaws
 pub mod FinishLaws
 pub mod Demand2
+pub mod PromisedLaws

@@ -2,4 +2,5 @@
 pub mod Queue
 pub mod World
 pub mod Says
+pub mod Promised
 pub mod Demand2

@@ -2,7 +2,7 @@
 -- definitions that the contracts of `card` and `rack` cite. Document 01, "A request, step by step". Assumes nothing.
 use Prim.Native.Nat.{ℕ, _≤_}
 use mathlib.Core.Bool.{cond}
-use mathlib.Core.List.{List, []}
+use mathlib.Core.List.{List, [], _∷_}
 use lib.Dec.{eqb}
 use lib.ListN.{length}
 use Rattle.record.specs.declared.Leaf.{Leaf}
@@ -121,3 +121,8 @@ module _ (u : World) where
   step (finish words) = finishing (rackNumber words) (shown words)
   step withdraw = alone (firstGiven (withdrawTable (u .card))) (withdrawn (u .card)) [] 0 0
   step findMin = alone (firstGiven (minTable (u .card))) (foundMin (u .card)) (u .list) (u .whole) (u .least)
+
+-- the outcomes of calls, one after the other
+unfoldable pub outcomes : World → List Call → List Outcome
+outcomes u [] = []
+outcomes u (c ∷ cs) = step u c ∷ outcomes (step u c .world) cs
