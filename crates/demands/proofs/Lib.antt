@@ -5,3 +5,5 @@ pub mod StepLaws
 pub mod FinishLaws
 pub mod Demand2
 pub mod PromisedLaws
+pub mod Sample
+pub mod SortedLaws

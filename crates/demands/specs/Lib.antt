@@ -2,5 +2,6 @@
 pub mod Queue
 pub mod World
 pub mod Says
+pub mod Sorted
 pub mod Promised
 pub mod Demand2
