@@ -1,12 +1,11 @@
 -- What a ready card answers, and which events are then live, in the plain queue's words: for FindMin, and for the finish of
 -- whatever request waits. Assumes nothing.
 use Prim.Native.Nat.{ℕ, suc, _≤_}
-use mathlib.Core.Bool.{true, false, cond, true≢false}
-use mathlib.Core.List.{List, [], _∷_, _++_, map, map-append, List·Memᴰ, List·Memᴰ·not-nil}
-use mathlib.Core.Option.{Option, some}
+use mathlib.Core.Bool.{true, false, true≢false}
+use mathlib.Core.List.{List, [], _∷_, map, map-append, List·Memᴰ, List·Memᴰ·not-nil}
+use mathlib.Core.Option.{some}
 use mathlib.Core.Path.{_≡_, refl, sym, ap, _∙_}
 use native.Mathlib.Omega.{arith}
-use Rattle.record.specs.declared.Leaf.{Leaf}
 use Rattle.record.specs.declared.Stamp.{Stamp}
 use Rattle.record.specs.declared.Record.{Record}
 use Rattle.record.specs.Standing.{isDummy, isProper}
@@ -21,13 +20,12 @@ use Rattle.rack.specs.Copy.{fetched}
 use Rattle.card.specs.declared.Card.{Card}
 use Rattle.card.specs.declared.Waiting.{Waiting}
 use Rattle.card.specs.declared.Waiting.the-variants.{Nothing, Insert, Extract, Delete}
-use Rattle.card.specs.Tables.{waits, requestTable}
+use Rattle.card.specs.Tables.{waits}
 use Rattle.card.specs.Calls.{listOf}
 use Rattle.card.specs.Finish.{leftBy, cardLeft, finishedBy, finished}
 use Rattle.card.specs.declared.Done.{Done}
 use Rattle.card.specs.Answers.{numberOf}
 use Rattle.card.proofs.BeginLaws.{extractable}
-use Rattle.refusal.specs.Refusal.{firstGiven}
 use Rattle.good.specs.Live.{without, Ascending}
 use Rattle.good.proofs.PickLaws.{is-named}
 use Rattle.good.proofs.FewLaws.{least-live}
@@ -35,8 +33,8 @@ use Rattle.served.specs.Ready.{Ready}
 use Rattle.served.specs.LiveAfter.{liveAfter}
 use Rattle.served.proofs.CallLaws.{ready-least}
 use Rattle.served.proofs.FinishLaws.{delete-found}
-use Rattle.demands.specs.Queue.{Event, Queue, Reply, leastOf, takenOut, withoutThis, next, reply, told, wasFound, findMin}
-use Rattle.demands.specs.Says.{refOf, eventOf, asks, says}
+use Rattle.demands.specs.Queue.{Queue, leastOf, withoutThis, next, reply, told, wasFound}
+use Rattle.demands.specs.Says.{eventOf, asks, says}
 use Rattle.demands.proofs.QueueLaws.{least-smallest, has-found, taken-out}
 
 -- the queue of these records

@@ -1,5 +1,4 @@
 -- Demand 2, proved: specs/Demand2.antt. Assumes nothing.
-use Prim.Native.Nat.{ℕ}
 use mathlib.Core.Bool.{true}
 use mathlib.Core.List.{List, [], _∷_}
 use mathlib.Core.Logic.{⊎-elim}
@@ -12,9 +11,9 @@ use Rattle.card.specs.declared.Card.{Card}
 use Rattle.card.specs.Calls.{listOf}
 use Rattle.served.proofs.CallLaws.{start-ready}
 use Rattle.demands.specs.Queue.{Queue, emptyQueue, next}
-use Rattle.demands.specs.World.{World, freshWorld, Call, begin, finish, withdraw, findMin, Outcome, step}
+use Rattle.demands.specs.World.{World, freshWorld, Call, begin, finish, withdraw, findMin, step}
 use Rattle.demands.specs.Says.{requestOf}
-use Rattle.demands.specs.Demand2.{Stands, Refuses, Answers, Run, ended, refused, answered, Demand2}
+use Rattle.demands.specs.Demand2.{Refuses, Answers, Run, ended, refused, answered, Demand2}
 use Rattle.demands.proofs.AnswerLaws.{queueOf}
 use Rattle.demands.proofs.StepLaws.{Holds, Plays, plays-begin, plays-withdraw, plays-min}
 use Rattle.demands.proofs.FinishLaws.{plays-finish}
@@ -60,7 +59,7 @@ module _ (u : World) (q : Queue) (h : Holds u q) where
       (subst (λ (v : World). Plays v (queueOf (h .stands .live) (k .t)) c (step v c)) same-world (each c))
 
 -- ---- a fresh world stands
-fresh-holds : (s : Sizes) → inRange s ≡ true → Holds (freshWorld s) emptyQueue
+pub fresh-holds : (s : Sizes) → inRange s ≡ true → Holds (freshWorld s) emptyQueue
 unfolding listOf
 fresh-holds s ok =
     record {

@@ -1,45 +1,38 @@
 -- A finish on a world that stands, with the rack's fetch before it and its store after it. Assumes nothing.
-use Prim.Native.Nat.{ℕ, zero, suc, _+_, _≤_, _<_}
-use mathlib.Core.Bool.{Bool, true, false, cond, and-eq-true-iff}
-use mathlib.Core.List.{List, [], _∷_, _++_}
+use Prim.Native.Nat.{ℕ, _+_, _≤_, _<_}
+use mathlib.Core.Bool.{true, false, and-eq-true-iff}
+use mathlib.Core.List.{List, [], _++_}
 use mathlib.Core.Logic.{_⊎_, inl, inr}
 use mathlib.Core.Path.{_≡_, refl, sym, ap, _∙_, subst}
 use mathlib.Mathlib.Data.Bool.Basic.{dichotomy}
 use native.Mathlib.Omega.{arith}
-use lib.Dec.{ltb, eqb}
+use lib.Dec.{ltb}
 use lib.ListN.{length, drop, length-append, length-map}
-use borrow.Author.Tests.{ltb-true, ltb-false, lt-ltb, le-ltb, eq-eqb, ne-eqb}
+use borrow.Author.Tests.{ltb-true, ltb-false, lt-ltb, ne-eqb}
 use Rattle.record.specs.declared.Record.{Record}
 use Rattle.path.specs.Sizes.{treeIn, inRange}
 use Rattle.path.specs.Path.{number}
-use Rattle.path.specs.BucketList.{BucketList, numbers, laid, counts}
+use Rattle.path.specs.BucketList.{BucketList, numbers, laid}
 use Rattle.refusal.specs.Refusal.{firstGiven}
 use Rattle.settle.specs.Left.{Left, wordsLeft}
-use Rattle.rack.specs.Answers.{wordsFor, copyRefusal}
-use Rattle.rack.specs.Copy.{listed, fetched, stored}
+use Rattle.rack.specs.Copy.{fetched, stored}
 use Rattle.rack.proofs.ListedLaws.{listed-laid, laid-passes}
 use Rattle.rack.proofs.RefusalLaws.{refuses-words}
 use Rattle.card.specs.declared.Card.{Card}
-use Rattle.card.specs.declared.Waiting.the-variants.{Nothing}
-use Rattle.card.specs.declared.Answer.{Answer}
 use Rattle.card.specs.declared.Answer.the-variants.{Refused}
-use Rattle.card.specs.declared.Done.{Done}
-use Rattle.card.specs.Answers.{orRefused, numberOf}
+use Rattle.card.specs.Answers.{orRefused}
 use Rattle.card.specs.Tables.{waits}
-use Rattle.card.specs.BadCard.{badCard}
 use Rattle.card.specs.Calls.{listOf}
-use Rattle.card.specs.Finish.{leftBy, cardLeft, wordsNeeded, entryTable, finishTable, finished}
+use Rattle.card.specs.Finish.{leftBy, cardLeft, wordsNeeded, entryTable, finished}
 use Rattle.served.specs.Ready.{Ready}
 use Rattle.served.specs.LiveAfter.{liveAfter}
 use Rattle.served.proofs.CallLaws.{ready-card}
 use Rattle.served.proofs.RackLaws.{list-inside, fetched-room, left-room}
 use Rattle.served.proofs.FinishedLaws.{WordKey, finish-passes, finish-ready}
-use Rattle.demands.specs.Queue.{Queue, next}
-use Rattle.demands.specs.World.{World, Call, finish, Outcome, finishNumber, rackNumber, shown, finishing, step}
-use Rattle.demands.specs.Says.{requestOf}
-use Rattle.demands.specs.Demand2.{Stands, Refuses, Answers, RackPasses}
+use Rattle.demands.specs.Queue.{Queue}
+use Rattle.demands.specs.World.{World, finish, Outcome, finishNumber, rackNumber, shown, finishing, step}
 use Rattle.demands.proofs.AnswerLaws.{queueOf, finish-says, finish-numbered, finish-card, next-events, next-taken}
-use Rattle.demands.proofs.StepLaws.{Holds, Plays}
+use Rattle.demands.proofs.StepLaws.{Plays}
 
 -- ---- the card's number, given or not
 module _ (v : World) (fetch : ℕ) (ws : List ℕ) where

@@ -7,3 +7,4 @@ pub mod Demand2
 pub mod PromisedLaws
 pub mod Sample
 pub mod SortedLaws
+pub mod JobLaws

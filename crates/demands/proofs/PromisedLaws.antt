@@ -1,13 +1,13 @@
 -- The contracts leave one outcome of each call, and it is the one of `step`. Assumes nothing.
 use Prim.Native.Nat.{ℕ}
-use mathlib.Core.Bool.{true, false, cond}
+use mathlib.Core.Bool.{true, cond}
 use mathlib.Core.List.{List, [], _∷_}
 use mathlib.Core.Logic.{inl, inr}
 use mathlib.Core.Path.{_≡_, refl, sym, ap, _∙_}
 use mathlib.Mathlib.Data.Bool.Basic.{dichotomy}
 use lib.Dec.{eqb}
 use lib.ListN.{length}
-use borrow.Author.Tests.{eqb-true, eqb-false, eq-eqb, ne-eqb}
+use borrow.Author.Tests.{eqb-true, eq-eqb, ne-eqb}
 use Rattle.path.specs.declared.sizes.Sizes.{Sizes}
 use Rattle.path.specs.Sizes.{treeIn, inRange}
 use Rattle.path.specs.Layout.{treeWords, freshTree}
@@ -16,13 +16,12 @@ use Rattle.refusal.specs.Refusal.{firstGiven}
 use Rattle.rack.specs.declared.Answer.{Answer as RackAnswer}
 use Rattle.rack.specs.Answers.{answerNumber, fillRefusal}
 use Rattle.rack.specs.Promises.{Fills}
-use Rattle.card.specs.declared.Card.{Card}
 use Rattle.card.specs.declared.Waiting.{Waiting}
 use Rattle.card.specs.declared.Done.{Done}
-use Rattle.card.specs.Answers.{refused, orRefused, numberOf, Answered}
-use Rattle.card.specs.Calls.{startTable, started, zeroCard, Begins, beginTable, begun, listOf, minTable, foundMin, withdrawTable, withdrawn}
-use Rattle.card.specs.Finish.{Finishes, finishTable, finished}
-use Rattle.demands.specs.World.{World, Call, begin, finish, withdraw, findMin, Outcome, unless, alone, rackNumber, shown, finishNumber, wordsAfter, storedFrom}
+use Rattle.card.specs.Answers.{orRefused, numberOf, Answered}
+use Rattle.card.specs.Calls.{startTable, started, zeroCard, Begins, beginTable, begun, listOf}
+use Rattle.card.specs.Finish.{Finishes}
+use Rattle.demands.specs.World.{World, Call, Outcome, unless, alone, rackNumber, shown, finishNumber, wordsAfter, storedFrom}
 use Rattle.demands.specs.World.{finishing, step, outcomes}
 use Rattle.demands.specs.Promised.{Promised, by-begin, by-withdraw, by-min, by-refused, by-finish}
 use Rattle.demands.specs.Promised.{Carried, ended, called, holding, told, wholeOf, leastOf, FetchesHeld, StoresHeld}

@@ -1,10 +1,10 @@
 -- The plain queue and the live records: the first of the least keys is the smallest record, since stamps rise in the order of
 -- insertion, and what a reference names in the queue is what label and stamp name among the records. Assumes nothing.
 use Prim.Native.Nat.{ℕ, suc, _<_, _≤_}
-use mathlib.Core.Bool.{Bool, true, false, cond, _&&_, _||_, true≢false}
+use mathlib.Core.Bool.{Bool, true, false, cond}
 use mathlib.Core.List.{List, [], _∷_, map, List·Memᴰ, List·Memᴰ·head, List·Memᴰ·tail}
 use mathlib.Core.Logic.{_⊎_, inl, inr, ⊎-elim}
-use mathlib.Core.Option.{Option, some}
+use mathlib.Core.Option.{some}
 use mathlib.Core.Path.{_≡_, refl, sym, ap, _∙_}
 use mathlib.Mathlib.Data.Bool.Basic.{dichotomy}
 use native.Mathlib.Omega.{arith}
@@ -16,14 +16,14 @@ use Rattle.record.specs.declared.Stamp.{Stamp}
 use Rattle.record.specs.declared.Record.{Record}
 use Rattle.record.specs.Standing.{dummy, isDummy, isProper}
 use Rattle.record.specs.Order.{noLater, smallerBy, smallestBy, smallest}
-use Rattle.record.proofs.StandingLaws.{proper-true, proper-not-dummy}
+use Rattle.record.proofs.StandingLaws.{proper-true}
 use Rattle.record.proofs.OrderLaws.{smaller-first, smallest-in, proper-before-dummy}
 use Rattle.way.specs.Evict.{seek}
 use Rattle.gather.specs.Removal.{named, found}
 use Rattle.gather.proofs.RemovalLaws.{found-passes, member-found}
-use Rattle.good.specs.Live.{without, Ascending, none, more}
+use Rattle.good.specs.Live.{without, Ascending, more}
 use Rattle.good.proofs.FitLaws.{at-place}
-use Rattle.good.proofs.PickLaws.{named-is, is-named}
+use Rattle.good.proofs.PickLaws.{named-is}
 use Rattle.demands.specs.Queue.{Event, Reference, refersTo, leastOf, sooner, has, takenOut}
 use Rattle.demands.specs.Says.{refOf, eventOf}
 

@@ -36,10 +36,8 @@ use Rattle.card.specs.Finish.{leftBy, damagedBy, entryTable, finishedBy}
 use Rattle.card.specs.Tables.{insertRows, extractRows, deleteRows, requestRows, waits}
 use Rattle.path.specs.Sizes.{sizesOf}
 use Rattle.record.specs.declared.Leaf.{Leaf}
-use Rattle.record.specs.declared.Stamp.{Stamp}
-use Rattle.card.specs.declared.Waiting.the-variants.{Insert, Extract, Delete}
 use Rattle.card.specs.Answers.{numberOf, valuesOf}
-use Rattle.demands.specs.World.{World, freshWorld, insert, extract, delete, Call, begin, finish, withdraw, findMin, Outcome, step, outcomes}
+use Rattle.demands.specs.World.{freshWorld, insert, extract, delete, Call, begin, finish, findMin, Outcome, step, outcomes}
 
 -- ---- the paper's lines as calls, with lists and words that are more than long enough
 abbrev leaf : ℕ → Leaf

@@ -1,17 +1,18 @@
 -- The plain queue sorts: ExtractMin after ExtractMin answers the events by key, then by insertion. And what a Delete finds.
 -- Assumes nothing.
 use Prim.Native.Nat.{ℕ, zero, suc, _≤_}
-use mathlib.Core.Bool.{true, false, cond, and-eq-true-iff, true≢false}
-use mathlib.Core.List.{List, [], _∷_, map, List·Memᴰ, List·Memᴰ·head, List·Memᴰ·tail}
-use mathlib.Core.Logic.{_⊎_, inl, inr}
+use mathlib.Core.Bool.{true, false, and-eq-true-iff, true≢false}
+use mathlib.Core.List.{List, [], _∷_, map, List·Memᴰ, List·Memᴰ·head, List·Memᴰ·tail, List·Memᴰ·not-nil}
+use mathlib.Core.List.{List·Permᴰ, List·Permᴰ·nil, List·Permᴰ·cons, List·Permᴰ·swap, List·Permᴰ·trans}
+use mathlib.Core.Logic.{_⊎_, inl, inr, ⊎-elim}
 use mathlib.Core.Option.{some}
 use mathlib.Core.Path.{_≡_, refl, sym, ap, _∙_}
 use mathlib.Mathlib.Data.Bool.Basic.{dichotomy}
 use native.Mathlib.Omega.{arith}
 use lib.ListN.{length, take}
-use borrow.Author.Tests.{eqb-true, eq-eqb}
-use Rattle.demands.specs.Queue.{Reference, Event, Queue, Reply, refersTo, noDearer, sooner, leastOf, has, takenOut, told, turned, withoutThis, extractMin, reply, next}
-use Rattle.demands.specs.Sorted.{placed, sorted, extracts, Distinct, none, more}
+use borrow.Author.Tests.{eqb-true, eq-eqb, leb-true, leb-false}
+use Rattle.demands.specs.Queue.{Reference, Event, Reply, refersTo, noDearer, sooner, leastOf, has, takenOut, told}
+use Rattle.demands.specs.Sorted.{placed, sorted, extracts, Distinct, more, Rising, flat, rise}
 
 -- ---- by reference
 module _ (r : Reference) (x : Event) where
@@ -181,3 +182,56 @@ extracts-sorted (suc n) (x ∷ xs) t d l =
     let F = f .2 in
     let later = extracts-sorted n (takenOut (m .ref) (x ∷ xs)) (suc t) (out-distinct (m .ref) (x ∷ xs) d) (omega (arith, F .fewer)) in
     rw (F .first, F .least) (ap (λ (rs : List Reply). told (some m) ∷ rs) (rw (F .later) at later))
+
+-- ---- what `sorted` gives rises, and is the same events
+placed-in : {z : Event} (x : Event) (es : List Event) → List·Memᴰ z (placed x es) → (z ≡ x) ⊎ List·Memᴰ z es
+placed-in x [] m = elim (rw (placed-none x) at m) [
+  | List·Memᴰ·head e ↦ inl e
+  | List·Memᴰ·tail n ↦ inr n
+]
+placed-in x (y ∷ ys) m = elim (dichotomy (noDearer x y)) [
+  | inr t ↦ elim (rw (placed-before x y ys t) at m) [
+    | List·Memᴰ·head e ↦ inl e
+    | List·Memᴰ·tail n ↦ inr n
+  ]
+  | inl f ↦ elim (rw (placed-behind x y ys f) at m) [
+    | List·Memᴰ·head e ↦ inr (List·Memᴰ·head e)
+    | List·Memᴰ·tail n ↦ ⊎-elim inl (λ k. inr (List·Memᴰ·tail k)) (placed-in x ys n)
+  ]
+]
+
+placed-rises : (x : Event) (es : List Event) → Rising es → Rising (placed x es)
+placed-rises x [] r = rw (placed-none x) (rise (λ y m. absurd (List·Memᴰ·not-nil m)) flat)
+placed-rises x (y ∷ ys) (rise first r) = elim (dichotomy (noDearer x y)) [
+  | inr t ↦
+      let low = leb-true (x .key) (y .key) t in
+      rw (placed-before x y ys t) (rise {x = x} {xs = y ∷ ys} (λ z m. elim m [
+        | List·Memᴰ·head e ↦ omega (arith, ap (λ (a : Event). a .key) e)
+        | List·Memᴰ·tail n ↦ omega (arith, first z n)
+      ]) (rise first r))
+  | inl f ↦
+      let low = leb-false (x .key) (y .key) f in
+      rw (placed-behind x y ys f) (rise {x = y} {xs = placed x ys} (λ z m.
+      ⊎-elim (λ (e : z ≡ x). omega (arith, ap (λ (a : Event). a .key) e)) (λ (n : List·Memᴰ z ys). first z n) (placed-in x ys m))
+      (placed-rises x ys r))
+]
+
+pub sorted-rises : (es : List Event) → Rising (sorted es)
+sorted-rises [] = rw sorted-none flat
+sorted-rises (x ∷ es) = rw (sorted-step x es) (placed-rises x (sorted es) (sorted-rises es))
+
+all-same : (es : List Event) → List·Permᴰ es es
+all-same [] = List·Permᴰ·nil
+all-same (x ∷ es) = List·Permᴰ·cons refl (all-same es)
+
+placed-same : (x : Event) (es : List Event) → List·Permᴰ (placed x es) (x ∷ es)
+placed-same x [] = rw (placed-none x) (List·Permᴰ·cons refl List·Permᴰ·nil)
+placed-same x (y ∷ ys) = elim (dichotomy (noDearer x y)) [
+  | inr t ↦ rw (placed-before x y ys t) (all-same (x ∷ y ∷ ys))
+  | inl f ↦ rw (placed-behind x y ys f) (List·Permᴰ·trans (List·Permᴰ·cons refl (placed-same x ys)) (List·Permᴰ·swap refl refl))
+]
+
+pub sorted-same : (es : List Event) → List·Permᴰ (sorted es) es
+sorted-same [] = rw sorted-none List·Permᴰ·nil
+sorted-same (x ∷ es) =
+    rw (sorted-step x es) (List·Permᴰ·trans (placed-same x (sorted es)) (List·Permᴰ·cons refl (sorted-same es)))

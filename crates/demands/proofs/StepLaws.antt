@@ -1,47 +1,39 @@
 -- One call on a world that stands: refused, with all as it was, or answered as the queue, and the world stands again.
 -- Assumes nothing.
-use Prim.Native.Nat.{ℕ, zero, suc, _+_, _≤_, _<_}
-use mathlib.Core.Bool.{Bool, true, false, cond, and-eq-true-iff}
-use mathlib.Core.List.{List, [], _∷_, _++_, map}
+use Prim.Native.Nat.{ℕ, _+_, _≤_}
+use mathlib.Core.Bool.{Bool, true, false}
+use mathlib.Core.List.{List, [], _∷_, _++_}
 use mathlib.Core.Logic.{_⊎_, inl, inr}
-use mathlib.Core.Path.{_≡_, refl, sym, ap, _∙_, subst}
+use mathlib.Core.Path.{_≡_, refl, sym, ap, subst}
 use mathlib.Mathlib.Data.Bool.Basic.{dichotomy}
 use native.Mathlib.Omega.{arith}
-use lib.Dec.{ltb, eqb}
+use lib.Dec.{eqb}
 use lib.ListN.{length}
-use borrow.Author.Tests.{ltb-true, ltb-false, lt-ltb, le-ltb, eqb-true, eqb-false, eq-eqb, ne-eqb}
+use borrow.Author.Tests.{eqb-true, eqb-false, eq-eqb, ne-eqb}
 use Rattle.record.specs.declared.Record.{Record}
-use Rattle.path.specs.Sizes.{treeIn, inRange}
-use Rattle.path.specs.BucketList.{BucketList, numbers, laid, counts}
+use Rattle.path.specs.BucketList.{BucketList, laid}
 use Rattle.refusal.specs.Refusal.{Refusal, row, firstGiven}
 use Rattle.refusal.proofs.RefusalLaws.{none-given}
-use Rattle.settle.specs.Left.{Left, wordsLeft}
-use Rattle.rack.specs.Answers.{wordsFor, copyRefusal}
-use Rattle.rack.specs.Copy.{listed, fetched, stored}
-use Rattle.rack.proofs.ListedLaws.{listed-laid, laid-passes}
 use Rattle.card.specs.declared.Card.{Card}
 use Rattle.card.specs.declared.Waiting.{Waiting}
 use Rattle.card.specs.declared.Waiting.the-variants.{Nothing, Insert, Extract, Delete}
 use Rattle.card.specs.declared.Answer.{Answer}
 use Rattle.card.specs.declared.Answer.the-variants.{Refused}
 use Rattle.card.specs.declared.Done.{Done}
-use Rattle.card.specs.Answers.{orRefused, numberOf}
+use Rattle.card.specs.Answers.{orRefused}
 use Rattle.card.specs.Tables.{insertRows, extractRows, deleteRows, requestRows, requestTable, waits}
 use Rattle.card.specs.BadCard.{badCard}
 use Rattle.card.specs.Calls.{listOf, beginTable, begun, minTable, foundMin, withdrawTable, withdrawn, withWaiting}
-use Rattle.card.specs.Finish.{leftBy, cardLeft, wordsNeeded, entryTable, finishTable, finished}
 use Rattle.card.proofs.BeginLaws.{accepted}
 use Rattle.card.proofs.CallLaws.{same-list}
 use Rattle.served.specs.Ready.{Ready}
-use Rattle.served.specs.LiveAfter.{liveAfter}
 use Rattle.served.proofs.CallLaws.{ready-card, begin-ready, withdraw-ready}
-use Rattle.served.proofs.RackLaws.{list-inside, fetched-room, left-room}
-use Rattle.served.proofs.FinishedLaws.{WordKey, finish-passes, finish-ready}
-use Rattle.demands.specs.Queue.{Queue, next, nothing, told}
-use Rattle.demands.specs.World.{World, Asked, insert, extract, delete, Call, begin, finish, withdraw, findMin, Outcome, alone, finishing, step}
+use Rattle.served.proofs.FinishedLaws.{WordKey}
+use Rattle.demands.specs.Queue.{Queue, next, told}
+use Rattle.demands.specs.World.{World, Asked, insert, extract, delete, Call, begin, withdraw, findMin, Outcome, alone, step}
 use Rattle.demands.specs.Says.{requestOf}
 use Rattle.demands.specs.Demand2.{Stands, Refuses, Answers, RackPasses}
-use Rattle.demands.proofs.AnswerLaws.{queueOf, least-told, finish-says, finish-numbered, finish-card, next-events, next-taken}
+use Rattle.demands.proofs.AnswerLaws.{queueOf, least-told}
 
 -- ---- what holds between two calls, and what one call keeps
 -- a world that stands, and the list that is held is the one of the request that waits

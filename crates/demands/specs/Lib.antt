@@ -3,5 +3,6 @@ pub mod Queue
 pub mod World
 pub mod Says
 pub mod Sorted
+pub mod Jobs
 pub mod Promised
 pub mod Demand2

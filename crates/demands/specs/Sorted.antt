@@ -1,5 +1,5 @@
 -- Events sorted by key, then by insertion. Assumes nothing.
-use Prim.Native.Nat.{ℕ, zero, suc}
+use Prim.Native.Nat.{ℕ, zero, suc, _≤_}
 use mathlib.Core.Bool.{cond}
 use mathlib.Core.List.{List, [], _∷_, List·Memᴰ}
 use mathlib.Core.Path.{_≡_}
@@ -23,3 +23,8 @@ extracts (suc n) q = reply q extractMin ∷ extracts n (next q extractMin)
 pub data Distinct : List Event → Type 0 where
   none : Distinct []
   more : {x : Event} {xs : List Event} → ((y : Event) → List·Memᴰ y xs → x .ref ≡ y .ref → ⊥) → Distinct xs → Distinct (x ∷ xs)
+
+-- no event is dearer than one behind it
+pub data Rising : List Event → Type 0 where
+  flat : Rising []
+  rise : {x : Event} {xs : List Event} → ((y : Event) → List·Memᴰ y xs → x .key ≤ y .key) → Rising xs → Rising (x ∷ xs)
