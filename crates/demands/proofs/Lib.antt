@@ -8,3 +8,4 @@ pub mod PromisedLaws
 pub mod Sample
 pub mod SortedLaws
 pub mod JobLaws
+pub mod StandsLaws

@@ -6,3 +6,4 @@ pub mod Sorted
 pub mod Jobs
 pub mod Promised
 pub mod Demand2
+pub mod Plainly
