@@ -21,6 +21,7 @@ use Rattle.rack.specs.Copy.{fetched, stored}
 use Rattle.card.specs.declared.Card.{Card}
 use Rattle.card.specs.declared.Waiting.the-variants.{Insert, Extract, Delete}
 use Rattle.card.specs.Tables.{nextStamp, requestTable}
+use Rattle.card.specs.Finish.{cardLeft}
 use Rattle.card.proofs.BeginLaws.{Insertable, insertable, extractable, Deletable, deletable}
 use Rattle.tree.proofs.HalvesLaws.{Halves}
 use Rattle.good.specs.Live.{without}
@@ -29,7 +30,7 @@ use Rattle.good.proofs.PickLaws.{Picks, named-picks, same-picks}
 use Rattle.good.proofs.FewLaws.{least-real}
 use Rattle.good.proofs.FoundLaws.{least-inside, extract-found, found-as-live}
 use Rattle.good.proofs.SettledLaws.{removal-kept, removal-undamaged, insertion-kept, insertion-undamaged}
-use Rattle.served.specs.Ready.{Ready, cardLeft}
+use Rattle.served.specs.Ready.{Ready}
 use Rattle.served.proofs.CallLaws.{none-waits}
 
 module _ (k : Card) (tree words : List ℕ) (live : List Record) (r : Ready k tree live) where

@@ -2,3 +2,4 @@
 pub mod CallLaws
 pub mod FinishLaws
 pub mod RackLaws
+pub mod FinishedLaws

@@ -1,20 +1,14 @@
 -- A card and the tree that goes with it, between two calls. Assumes nothing.
-use Prim.Native.Nat.{ℕ, suc}
+use Prim.Native.Nat.{ℕ}
 use mathlib.Core.List.{List}
 use mathlib.Core.Path.{_≡_}
 use Rattle.record.specs.declared.Record.{Record}
 use Rattle.refusal.specs.Refusal.{firstGiven}
 use Rattle.card.specs.declared.Card.{Card}
-use Rattle.card.specs.declared.Waiting.the-variants.{Nothing}
-use Rattle.card.specs.Tables.{cardOf, requestTable}
-use Rattle.settle.specs.Left.{Left}
+use Rattle.card.specs.Tables.{requestTable}
 use Rattle.good.specs.Heap.{Heap}
 
 -- They hold a good heap of these live events, and the request that waits, if any, is one that begin takes.
 pub record Ready (k : Card) (tree : List ℕ) (live : List Record) : Type 0 where
   pub heap : Heap (k .sizes) (k .t) (k .c) (k .root) (k .least) tree live
   pub waiting : firstGiven (requestTable k (k .waiting)) ≡ 0
-
--- the card that a finish hands back: "Every finished Insert, ExtractMin and Delete adds 1 to t", and none waits
-abbrev pub cardLeft : Card → Left → Card
-cardLeft k l = cardOf (k .sizes) (suc (k .t)) (l .c) (l .root) (l .least) Nothing

@@ -1,0 +1,137 @@
+-- Whole requests of which none is refused are answered as the queue replies to them; so insertions and then as many
+-- ExtractMins sort. Assumes nothing.
+use Prim.Native.Nat.{ℕ, zero, suc, _+_, _≤_}
+use mathlib.Core.Bool.{true}
+use mathlib.Core.List.{List, [], _∷_, _++_, map, append-nil, append-assoc, List·Memᴰ, List·Memᴰ·head, List·Memᴰ·tail, List·Memᴰ·not-nil}
+use mathlib.Core.Logic.{_⊎_, inl, inr, ⊎-elim}
+use mathlib.Core.Option.{some}
+use mathlib.Core.Path.{_≡_, refl, sym, ap, _∙_, subst}
+use mathlib.Mathlib.Data.Bool.Basic.{dichotomy}
+use native.Mathlib.Omega.{arith}
+use lib.Dec.{eqb}
+use lib.ListN.{length, take, drop, replicate, length-map}
+use lib.Seq.{take-all, drop-at}
+use borrow.Author.Tests.{eqb-false}
+use Rattle.path.specs.declared.sizes.Sizes.{Sizes}
+use Rattle.path.specs.Sizes.{inRange}
+use Rattle.refusal.specs.Refusal.{firstGiven}
+use Rattle.card.specs.declared.Waiting.{Waiting}
+use Rattle.card.specs.Answers.{orRefused, numberOf}
+use Rattle.card.specs.Calls.{beginTable}
+use Rattle.demands.specs.Queue.{Reference, Event, Queue, Request, Reply, emptyQueue, noDearer, told, extractMin, reply, next}
+use Rattle.demands.specs.World.{World, freshWorld, Asked, Call, begin, finish, Outcome, step}
+use Rattle.demands.specs.Says.{asks, says, requestOf}
+use Rattle.demands.specs.Demand2.{Refuses, Answers}
+use Rattle.demands.specs.Sorted.{sorted, placed, extracts, Distinct, none as alone, more as apart}
+use Rattle.demands.specs.Jobs.{Job, job, Passes, none, more, answers, wanted, replies, Input, put, made, eventsFrom}
+use Rattle.demands.proofs.StepLaws.{Holds, Plays}
+use Rattle.demands.proofs.Demand2.{plays, fresh-holds}
+use Rattle.demands.proofs.SortedLaws.{extracts-sorted}
+
+-- a call that is not refused
+passed : {u : World} {q : Queue} {c : Call} {o : Outcome} → Plays u q c o → numberOf (o .answer) ≡ 0
+    → Answers q (requestOf u c) o × Holds (o .world) (next q (requestOf u c))
+passed {u} {q} {c} {o} p e =
+    ⊎-elim (λ (n : Refuses u o). absurd (n .some (sym (ap numberOf (n .given)) ∙ e)))
+    (λ (a : Answers q (requestOf u c) o × Holds (o .world) (next q (requestOf u c))). a) (p .card)
+
+-- a begin that is not refused has its request wait
+waits-now : (u : World) {w : Waiting} (asked : Asked w) (lent : List ℕ) → numberOf (step u (begin asked lent) .answer) ≡ 0
+    → step u (begin asked lent) .world .card .waiting ≡ w
+unfolding step orRefused
+waits-now u {w} asked lent e =
+    let n = firstGiven (beginTable (u .card) w (length lent)) in
+    elim (dichotomy (eqb n 0)) [
+      | inl f ↦ absurd (eqb-false n 0 f (rw f at e))
+      | inr t ↦ rw t
+    ]
+
+pub jobs-answered : {u : World} {js : List Job} → Passes u js → (q : Queue) → Holds u q → answers u js ≡ replies q (map wanted js)
+unfolding answers replies
+jobs-answered none q h = refl
+jobs-answered {u} (more {j = job {w} asked lent words} {js = js} b f rest) q h =
+    let begun = passed (plays u q h (begin asked lent)) b in
+    let v = step u (begin asked lent) .world in
+    let done = passed (plays v q (begun .1) (finish words)) f in
+    let is : requestOf v (finish words) ≡ asks w = ap asks (waits-now u asked lent b) in
+    let now : says (step v (finish words) .answer) ≡ reply q (asks w) = done .0 .same ∙ ap (reply q) is in
+    let later = jobs-answered rest (next q (asks w)) (subst (λ (r : Request). Holds (step v (finish words) .world) (next q r)) is (done .1)) in
+    λ i. now i ∷ later i
+
+-- ---- insertions, then as many ExtractMins
+abbrev nexts : Queue → List Request → Queue
+nexts q [] = q
+nexts q (r ∷ rs) = nexts (next q r) rs
+
+replies-append : (q : Queue) (rs ss : List Request) → replies q (rs ++ ss) ≡ replies q rs ++ replies (nexts q rs) ss
+unfolding replies
+replies-append q [] ss = refl
+replies-append q (r ∷ rs) ss = ap (λ (xs : List Reply). reply q r ∷ xs) (replies-append (next q r) rs ss)
+
+replies-many : (q : Queue) (rs : List Request) → length (replies q rs) ≡ length rs
+unfolding replies
+replies-many q [] = refl
+replies-many q (r ∷ rs) = ap suc (replies-many (next q r) rs)
+
+replies-extracts : (n : ℕ) (q : Queue) → replies q (replicate n extractMin) ≡ extracts n q
+unfolding replies extracts
+replies-extracts zero q = refl
+replies-extracts (suc n) q = ap (λ (xs : List Reply). reply q extractMin ∷ xs) (replies-extracts n (next q extractMin))
+
+events-put : (is : List Input) (es : List Event) (t : ℕ)
+    → nexts (record { events = es; taken = t }) (map put is) .events ≡ es ++ eventsFrom t is
+unfolding eventsFrom
+events-put [] es t = sym (append-nil es)
+events-put (i ∷ is) es t = events-put is _ (suc t) ∙ append-assoc es _ (eventsFrom (suc t) is)
+
+-- stamps rise, so no two references are one
+from-stamp : {y : Event} (t : ℕ) (is : List Input) → List·Memᴰ y (eventsFrom t is) → t ≤ y .ref .stamp
+unfolding eventsFrom
+from-stamp t [] m = absurd (List·Memᴰ·not-nil m)
+from-stamp t (i ∷ is) (List·Memᴰ·head e) = omega (arith, ap (λ (a : Event). a .ref .stamp) e)
+from-stamp t (i ∷ is) (List·Memᴰ·tail m) = omega (arith, from-stamp (suc t) is m)
+
+from-distinct : (t : ℕ) (is : List Input) → Distinct (eventsFrom t is)
+unfolding eventsFrom
+from-distinct t [] = alone
+from-distinct t (i ∷ is) =
+    apart {x = made t i} {xs = eventsFrom (suc t) is} (λ y m e. omega (arith, from-stamp (suc t) is m, ap (λ (a : Reference). a .stamp) e)) (from-distinct (suc t) is)
+
+from-many : (t : ℕ) (is : List Input) → length (eventsFrom t is) ≡ length is
+unfolding eventsFrom
+from-many t [] = refl
+from-many t (i ∷ is) = ap suc (from-many (suc t) is)
+
+placed-many : (x : Event) (es : List Event) → length (placed x es) ≡ suc (length es)
+unfolding placed
+placed-many x [] = refl
+placed-many x (y ∷ ys) = elim (dichotomy (noDearer x y)) [
+  | inr t ↦ rw t
+  | inl f ↦ rw f (ap suc (placed-many x ys))
+]
+
+sorted-many : (es : List Event) → length (sorted es) ≡ length es
+unfolding sorted
+sorted-many [] = refl
+sorted-many (x ∷ es) = placed-many x (sorted es) ∙ ap suc (sorted-many es)
+
+-- "insert each element sequentially .. and .. call ExtractMin() a total of m times": the answers are the events by key, then by
+-- insertion, for every run of which no request is refused
+pub sorts : (s : Sizes) → inRange s ≡ true → (js : List Job) (is : List Input)
+    → map wanted js ≡ map put is ++ replicate (length is) extractMin → Passes (freshWorld s) js
+    → drop (length is) (answers (freshWorld s) js) ≡ map (λ e. told (some e)) (sorted (eventsFrom 0 is))
+sorts s ok js is e p =
+    let n = length is in
+    let q = nexts emptyQueue (map put is) in
+    let live : q .events ≡ eventsFrom 0 is = events-put is [] 0 in
+    let puts = replies emptyQueue (map put is) in
+    let all : answers (freshWorld s) js ≡ puts ++ extracts n q =
+    jobs-answered p emptyQueue (fresh-holds s ok) ∙ ap (replies emptyQueue) e ∙ replies-append emptyQueue (map put is) (replicate n extractMin)
+    ∙ ap (λ (xs : List Reply). puts ++ xs) (replies-extracts n q) in
+    let long : length puts ≡ n = replies-many emptyQueue (map put is) ∙ length-map is put in
+    let many : n ≤ length (q .events) = omega (arith, ap length live, from-many 0 is) in
+    let out : extracts n q ≡ map (λ e. told (some e)) (take n (sorted (q .events))) =
+    extracts-sorted n (q .events) (q .taken) (subst Distinct (sym live) (from-distinct 0 is)) many in
+    let whole : take n (sorted (q .events)) ≡ sorted (eventsFrom 0 is) =
+    ap (λ (es : List Event). take n (sorted es)) live ∙ take-all n (sorted (eventsFrom 0 is)) (omega (arith, sorted-many (eventsFrom 0 is), from-many 0 is)) in
+    rw all (drop-at puts (extracts n q) n long ∙ out ∙ ap (map (λ e. told (some e))) whole)

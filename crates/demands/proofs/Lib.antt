@@ -1,0 +1,11 @@
+-- Laws of the demands that crates above cite.
+pub mod QueueLaws
+pub mod AnswerLaws
+pub mod StepLaws
+pub mod FinishLaws
+pub mod Demand2
+pub mod PromisedLaws
+pub mod Sample
+pub mod SortedLaws
+pub mod JobLaws
+pub mod StandsLaws

@@ -1,0 +1,161 @@
+-- The contracts leave one outcome of each call, and it is the one of `step`. Assumes nothing.
+use Prim.Native.Nat.{ℕ}
+use mathlib.Core.Bool.{true, cond}
+use mathlib.Core.List.{List, [], _∷_}
+use mathlib.Core.Logic.{inl, inr}
+use mathlib.Core.Path.{_≡_, refl, sym, ap, _∙_}
+use mathlib.Mathlib.Data.Bool.Basic.{dichotomy}
+use lib.Dec.{eqb}
+use lib.ListN.{length}
+use borrow.Author.Tests.{eqb-true, eq-eqb, ne-eqb}
+use Rattle.path.specs.declared.sizes.Sizes.{Sizes}
+use Rattle.path.specs.Sizes.{treeIn, inRange}
+use Rattle.path.specs.Layout.{treeWords, freshTree}
+use Rattle.path.specs.BucketList.{laid}
+use Rattle.refusal.specs.Refusal.{firstGiven}
+use Rattle.rack.specs.declared.Answer.{Answer as RackAnswer}
+use Rattle.rack.specs.Answers.{answerNumber, fillRefusal}
+use Rattle.rack.specs.Promises.{Fills}
+use Rattle.card.specs.declared.Waiting.{Waiting}
+use Rattle.card.specs.declared.Done.{Done}
+use Rattle.card.specs.Answers.{orRefused, numberOf, Answered}
+use Rattle.card.specs.Calls.{startTable, started, zeroCard, Begins, beginTable, begun, listOf}
+use Rattle.card.specs.Finish.{Finishes}
+use Rattle.demands.specs.World.{World, Call, Outcome, unless, alone, rackNumber, shown, finishNumber, wordsAfter, storedFrom}
+use Rattle.demands.specs.World.{finishing, step, outcomes}
+use Rattle.demands.specs.Promised.{Promised, by-begin, by-withdraw, by-min, by-refused, by-finish}
+use Rattle.demands.specs.Promised.{Carried, ended, called, holding, told, wholeOf, leastOf, FetchesHeld, StoresHeld}
+
+-- a call of the card alone
+alone-told : (u : World) (n : ℕ) (done d : Done) (list : List ℕ) (whole least : ℕ) → Answered (u .card) n done d
+    → told u d list whole least ≡ alone u n done list whole least
+alone-told u n done d list whole least a =
+    let number = a .numbered in
+    let whole-answer = a .whole in
+    λ i.
+    record {
+      world = record {
+        card = whole-answer i .card;
+        tree = u .tree;
+        list = cond (eqb (number i) 0) list (u .list);
+        whole = cond (eqb (number i) 0) whole (u .whole);
+        least = cond (eqb (number i) 0) least (u .least);
+      };
+      answer = whole-answer i .answer;
+      fetch = 0;
+      store = 0;
+    }
+
+-- the list does not matter where a number is given
+alone-agree : (u : World) (n : ℕ) (done : Done) (list list′ : List ℕ) (whole whole′ least least′ : ℕ) → (n ≡ 0 → list ≡ list′)
+    → (n ≡ 0 → whole ≡ whole′) → (n ≡ 0 → least ≡ least′) → alone u n done list whole least ≡ alone u n done list′ whole′ least′
+alone-agree u n done list list′ whole whole′ least least′ p q r = elim (dichotomy (eqb n 0)) [
+  | inl f ↦ rw f
+  | inr t ↦
+      let e = eqb-true n 0 t in
+      let pe = p e in
+      let qe = q e in
+      let re = r e in
+      λ i. alone u n done (pe i) (qe i) (re i)
+]
+
+begin-told : (u : World) (w : Waiting) (lent after : List ℕ) (d : Done) → Begins (u .card) w lent after d
+    → told u d after (wholeOf u d) (leastOf u d) ≡ alone u (firstGiven (beginTable (u .card) w (length lent))) (begun (u .card) w)
+    (laid (listOf (u .card) w) lent) (length (listOf (u .card) w .whole)) (length (listOf (u .card) w .least))
+unfolding orRefused
+begin-told u w lent after d b =
+    let n = firstGiven (beginTable (u .card) w (length lent)) in
+    let is : n ≡ 0 → d ≡ begun (u .card) w = λ e. b .call .whole ∙ rw (eq-eqb n 0 e) in
+    alone-told u n (begun (u .card) w) d after (wholeOf u d) (leastOf u d) (b .call)
+    ∙ alone-agree u n (begun (u .card) w) after _ (wholeOf u d) _ (leastOf u d) _
+    (λ e. b .places ∙ rw (eq-eqb n 0 e)) (λ e. ap (wholeOf u) (is e)) (λ e. ap (leastOf u) (is e))
+
+unless-yes : {A : Type 0} (n : ℕ) (x y : A) → n ≡ 0 → x ≡ unless n x y
+unless-yes n x y e = rw (eq-eqb n 0 e)
+
+unless-no : {A : Type 0} (n : ℕ) (x y : A) → (n ≡ 0 → ⊥) → y ≡ unless n x y
+unless-no n x y e = rw (ne-eqb n 0 e)
+
+module _ (u : World) (words ws after : List ℕ) (a : RackAnswer) (d : Done) (f : FetchesHeld u words a ws) (g : Finishes (u .card) ws after d) where
+  fetched-so : finishing u (answerNumber a) ws ≡ finishing u (rackNumber u words) (shown u words)
+  fetched-so =
+      let number = f .number in
+      let lent = f .lent in
+      λ i. finishing u (number i) (lent i)
+
+  refused-so : (numberOf (d .answer) ≡ 0 → ⊥)
+      → record { world = holding u d [] 0 0; answer = d .answer; fetch = answerNumber a; store = 0 } ≡ finishing u (answerNumber a) ws
+  refused-so some =
+      let number = g .call .numbered in
+      let answer = g .call .whole in
+      let given : finishNumber u ws ≡ 0 → ⊥ = λ e. some (number ∙ e) in
+      let tree = unless-no (finishNumber u ws) (storedFrom u (wordsAfter u ws)) (u .tree) given in
+      let store = unless-no (finishNumber u ws) (rackNumber u (wordsAfter u ws)) 0 given in
+      λ i.
+      record {
+        world = record {
+          card = answer i .card;
+          tree = tree i;
+          list = unless (number i) [] (u .list);
+          whole = unless (number i) 0 (u .whole);
+          least = unless (number i) 0 (u .least);
+        };
+        answer = answer i .answer;
+        fetch = answerNumber a;
+        store = store i;
+      }
+
+  done-so : numberOf (d .answer) ≡ 0 → (tree : List ℕ) (b : RackAnswer) → StoresHeld u after b tree
+      → record {
+        world = record { card = d .card; tree = tree; list = []; whole = 0; least = 0 };
+        answer = d .answer;
+        fetch = answerNumber a;
+        store = answerNumber b;
+      } ≡ finishing u (answerNumber a) ws
+  done-so zero tree b s =
+      let n = finishNumber u ws in
+      let answer = g .call .whole in
+      let none = sym (g .call .numbered) ∙ zero in
+      let trees = s .lent ∙ ap (storedFrom u) (g .words) ∙ unless-yes n (storedFrom u (wordsAfter u ws)) (u .tree) none in
+      let stores = s .number ∙ ap (rackNumber u) (g .words) ∙ unless-yes n (rackNumber u (wordsAfter u ws)) 0 none in
+      let lists = unless-yes n [] (u .list) none in
+      let wholes = unless-yes n 0 (u .whole) none in
+      let leasts = unless-yes n 0 (u .least) none in
+      λ i.
+      record {
+        world = record { card = answer i .card; tree = trees i; list = lists i; whole = wholes i; least = leasts i };
+        answer = answer i .answer;
+        fetch = answerNumber a;
+        store = stores i;
+      }
+
+-- what the contracts promise of a call is its step
+pub promised-step : {u : World} {c : Call} {o : Outcome} → Promised u c o → o ≡ step u c
+unfolding step
+promised-step {u} (by-begin {w} asked lent after d b) = begin-told u w lent after d b
+promised-step {u} (by-withdraw d a) = alone-told u _ _ d [] 0 0 a
+promised-step {u} (by-min d a) = alone-told u _ _ d (u .list) (u .whole) (u .least) a
+promised-step {u} (by-refused words ws after a d f g n) = refused-so u words ws after a d f g n ∙ fetched-so u words ws after a d f g
+promised-step {u} (by-finish words ws after tree a b d f g n s) =
+    done-so u words ws after a d f g n tree b s ∙ fetched-so u words ws after a d f g
+
+-- and so call after call
+pub carried-outcomes : {u : World} {cs : List Call} {os : List Outcome} → Carried u cs os → os ≡ outcomes u cs
+unfolding outcomes
+carried-outcomes ended = refl
+carried-outcomes {u} (called {c} {o} {cs} {os} p rest) =
+    let now = promised-step p in
+    let later = carried-outcomes rest in
+    λ i. now i ∷ (later ∙ ap (λ (x : Outcome). outcomes (x .world) cs) now) i
+
+-- ---- the world that start and fill promise is the fresh one
+pub start-fresh : (s : Sizes) → inRange s ≡ true → (d : Done) → Answered zeroCard (firstGiven (startTable s)) (started s) d → d ≡ started s
+unfolding orRefused startTable firstGiven
+start-fresh s ok d a = rw ok at (a .whole)
+
+pub fill-fresh : (h z : ℕ) (tree after : List ℕ) (answer : RackAnswer) → treeIn h z ≡ true → length tree ≡ treeWords h z
+    → Fills h z tree answer after → (answerNumber answer ≡ 0) × (after ≡ freshTree h z)
+unfolding firstGiven
+fill-fresh h z tree after answer ok long f =
+    let none : fillRefusal h z tree ≡ 0 = rw (ok, eq-eqb (length tree) (treeWords h z) long) in
+    (f .number ∙ none, rw none at (f .lent))

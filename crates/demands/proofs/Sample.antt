@@ -1,0 +1,89 @@
+-- The run of document 01's desk, worked out by the very steps of demand 2: "Input, then whole output". An Insert and a Delete are
+-- answered, an Overflow is passed over, and a Delete of what is gone is Absent. Assumes nothing.
+use Prim.Native.Nat.{ℕ, _≤_}
+use mathlib.Core.List.{List, [], _∷_, map, flatMap}
+use mathlib.Core.Path.{_≡_, refl}
+use native.Mathlib.Omega.{arith}
+use lib.ListN.{replicate}
+use Rattle.record.specs.Standing.{dummyKey}
+use Rattle.card.specs.declared.Waiting.{Waiting}
+use Rattle.demands.specs.World.{Asked}
+use Rattle.record.specs.Many.{every, reals, bears, stampTwice}
+use Rattle.record.specs.Order.{noLater, smallerBy, smallestBy}
+use Rattle.record.specs.Standing.{same, isDummy, known, isProper, mayStand}
+use Rattle.record.specs.Words.{records, wordsOf}
+use Rattle.path.specs.BucketList.{pairList, pathList, sum, wordsMoved}
+use Rattle.path.specs.Path.{pathBucket, holds, siblingOf, upFrom, path}
+use Rattle.path.specs.Sizes.{between, treeIn, inRange}
+use Rattle.refusal.specs.Refusal.{firstGiven}
+use Rattle.root.specs.Root.{strangeSlot, usedPast, stampShared, rootRecords, greaterThanSome, rootFull}
+use Rattle.judge.specs.BadParts.{oddLeast, badParts}
+use Rattle.way.specs.Evict.{seek, fits, movedTo, pull, pulls, evictUp, evict}
+use Rattle.way.specs.Least.{slotsAt, inOrder, kids}
+use Rattle.gather.specs.Removal.{named, found, removed}
+use Rattle.gather.specs.Shown.{wholeAt, siblingAt, siblingsShown, slotsShown, wayShown}
+use Rattle.mend.specs.Mended.{pathWords}
+use Rattle.work.specs.Work.{pathBuckets, rootAfter, leastAfter, seated}
+use Rattle.damage.specs.Damage.{sound, pathSound, siblingsSound, kidsShown, leastsTrue}
+use Rattle.damage.specs.Damaged.{pathDamaged, pairDamaged}
+use Rattle.settle.specs.Left.{removal, insertion, removalDamaged, insertionDamaged}
+use Rattle.rack.specs.Answers.{anyOutside}
+use Rattle.rack.specs.Copy.{stored}
+use Rattle.card.specs.Answers.{orRefused}
+use Rattle.card.specs.BadCard.{badCard}
+use Rattle.card.specs.Calls.{listOf, beginTable, minTable, withdrawTable}
+use Rattle.card.specs.Finish.{leftBy, damagedBy, entryTable, finishedBy}
+use Rattle.card.specs.Tables.{insertRows, extractRows, deleteRows, requestRows, waits}
+use Rattle.path.specs.Sizes.{sizesOf}
+use Rattle.record.specs.declared.Leaf.{Leaf}
+use Rattle.card.specs.Answers.{numberOf, valuesOf}
+use Rattle.demands.specs.World.{freshWorld, insert, extract, delete, Call, begin, finish, findMin, Outcome, step, outcomes}
+
+-- ---- the paper's lines as calls, with lists and words that are more than long enough
+abbrev leaf : ℕ → Leaf
+leaf n = record { 0 = n }
+
+abbrev asks : {w : Waiting} → Asked w → Call
+asks a = begin a (replicate 6 0)
+
+abbrev ends : Call
+ends = finish (replicate 41 0)
+
+abbrev inserts : (key value label first second : ℕ) → key ≤ dummyKey → Call
+inserts key value label first second word = asks (insert {value = value} {label = leaf label} {first = leaf first} {second = leaf second} word)
+
+abbrev lines : List Call
+lines =
+    inserts 7 70 0 1 2 (omega arith) ∷ ends
+    ∷ inserts 5 50 0 1 2 (omega arith) ∷ ends
+    ∷ inserts 6 60 3 1 2 (omega arith)
+    ∷ findMin
+    ∷ asks extract ∷ ends
+    ∷ asks (delete {label = leaf 0} {stamp = record { 0 = 0 }}) ∷ ends
+    ∷ asks (delete {label = leaf 0} {stamp = record { 0 = 0 }}) ∷ ends
+    ∷ asks extract
+    ∷ []
+
+-- the number of an answer, and its values
+abbrev shows : Outcome → List ℕ
+shows o = numberOf (o .answer) ∷ valuesOf (o .answer)
+
+sample : map shows (outcomes (freshWorld (sizesOf 2 1 1 16)) lines) ≡
+    (0 ∷ 4 ∷ 2 ∷ 0 ∷ 0 ∷ 0 ∷ 0 ∷ []) ∷ (0 ∷ 0 ∷ 0 ∷ 0 ∷ 0 ∷ 0 ∷ 72 ∷ [])
+    ∷ (0 ∷ 4 ∷ 2 ∷ 0 ∷ 0 ∷ 0 ∷ 0 ∷ []) ∷ (0 ∷ 0 ∷ 0 ∷ 0 ∷ 1 ∷ 0 ∷ 72 ∷ [])
+    ∷ (10 ∷ 0 ∷ 0 ∷ 0 ∷ 0 ∷ 0 ∷ 0 ∷ [])
+    ∷ (0 ∷ 5 ∷ 50 ∷ 0 ∷ 1 ∷ 0 ∷ 0 ∷ [])
+    ∷ (0 ∷ 2 ∷ 2 ∷ 0 ∷ 0 ∷ 0 ∷ 0 ∷ []) ∷ (0 ∷ 5 ∷ 50 ∷ 0 ∷ 1 ∷ 0 ∷ 40 ∷ [])
+    ∷ (0 ∷ 2 ∷ 2 ∷ 0 ∷ 0 ∷ 0 ∷ 0 ∷ []) ∷ (0 ∷ 0 ∷ 0 ∷ 0 ∷ 0 ∷ 1 ∷ 40 ∷ [])
+    ∷ (0 ∷ 2 ∷ 2 ∷ 0 ∷ 0 ∷ 0 ∷ 0 ∷ []) ∷ (0 ∷ 0 ∷ 0 ∷ 0 ∷ 0 ∷ 0 ∷ 40 ∷ [])
+    ∷ (8 ∷ 0 ∷ 0 ∷ 0 ∷ 0 ∷ 0 ∷ 0 ∷ [])
+    ∷ []
+unfolding every reals bears stampTwice noLater smallerBy smallestBy same isDummy known isProper mayStand records
+    wordsOf pairList pathList sum wordsMoved pathBucket holds siblingOf upFrom path between treeIn inRange firstGiven
+    strangeSlot usedPast stampShared rootRecords greaterThanSome rootFull oddLeast badParts seek fits movedTo pull
+    pulls evictUp evict slotsAt inOrder kids named found removed wholeAt siblingAt siblingsShown slotsShown wayShown
+    pathWords pathBuckets rootAfter leastAfter seated sound pathSound siblingsSound kidsShown leastsTrue pathDamaged
+    pairDamaged removal insertion removalDamaged insertionDamaged anyOutside stored orRefused badCard listOf
+    beginTable minTable withdrawTable leftBy damagedBy entryTable finishedBy insertRows extractRows deleteRows
+    requestRows waits step outcomes flatMap
+sample = refl

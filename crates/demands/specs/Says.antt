@@ -1,0 +1,43 @@
+-- Card and plain queue in each other's words: what a call asks of the queue, and what an answer says. Assumes nothing.
+use mathlib.Core.Option.{some}
+use Rattle.record.specs.declared.Leaf.{Leaf}
+use Rattle.record.specs.declared.Stamp.{Stamp}
+use Rattle.record.specs.declared.Record.{Record}
+use Rattle.card.specs.declared.Waiting.{Waiting}
+use Rattle.card.specs.declared.Waiting.the-variants.{Nothing, Insert, Extract, Delete}
+use Rattle.card.specs.declared.Answer.{Answer}
+use Rattle.card.specs.declared.Answer.the-variants.{Started, Listed, Least, Withdrawn, Inserted, Extracted, Deleted, Refused}
+use Rattle.demands.specs.Queue.{Reference, Event, Request, insert, extractMin, delete, nothing, findMin as findLeast}
+use Rattle.demands.specs.Queue.{Reply, referred, told, wasFound, silent}
+use Rattle.demands.specs.World.{World, Call, begin, finish, withdraw, findMin}
+
+abbrev pub refOf : Leaf → Stamp → Reference
+refOf label stamp = record { label = label .0; stamp = stamp .0 }
+
+abbrev pub eventOf : Record → Event
+eventOf r = record { key = r .key; value = r .value; ref = refOf (r .label) (r .stamp) }
+
+-- what a waiting request asks of the queue; its eviction leaves are nothing to the queue
+abbrev pub asks : Waiting → Request
+asks Nothing = nothing
+asks (Insert key value label first second) = insert key value (label .0)
+asks Extract = extractMin
+asks (Delete label stamp) = delete (refOf label stamp)
+
+-- a begin and a withdraw ask nothing of the queue
+abbrev pub requestOf : World → Call → Request
+requestOf u (begin asked places) = nothing
+requestOf u (finish words) = asks (u .card .waiting)
+requestOf u withdraw = nothing
+requestOf u findMin = findLeast
+
+-- what an answer says, words moved and lists aside
+abbrev pub says : Answer → Reply
+says Started = silent
+says (Listed whole least) = silent
+says (Least r) = told (some (eventOf r))
+says Withdrawn = silent
+says (Inserted label stamp words) = referred (refOf label stamp)
+says (Extracted r words) = told (some (eventOf r))
+says (Deleted found words) = wasFound found
+says (Refused number) = silent

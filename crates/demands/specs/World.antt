@@ -1,0 +1,128 @@
+-- The world of a run: card and rack, and what the driver holds between two calls; and what a call makes of it, by the
+-- definitions that the contracts of `card` and `rack` cite. Document 01, "A request, step by step". Assumes nothing.
+use Prim.Native.Nat.{ℕ, _≤_}
+use mathlib.Core.Bool.{cond}
+use mathlib.Core.List.{List, [], _∷_}
+use lib.Dec.{eqb}
+use lib.ListN.{length}
+use Rattle.record.specs.declared.Leaf.{Leaf}
+use Rattle.record.specs.declared.Stamp.{Stamp}
+use Rattle.record.specs.Standing.{dummyKey}
+use Rattle.path.specs.declared.sizes.Sizes.{Sizes}
+use Rattle.path.specs.Layout.{freshTree}
+use Rattle.path.specs.BucketList.{BucketList, laid}
+use Rattle.refusal.specs.Refusal.{firstGiven}
+use Rattle.settle.specs.Left.{wordsLeft}
+use Rattle.rack.specs.Refusals.{afterwards}
+use Rattle.rack.specs.Answers.{copyRefusal}
+use Rattle.rack.specs.Copy.{listed, fetched, stored}
+use Rattle.card.specs.declared.Card.{Card}
+use Rattle.card.specs.declared.Waiting.{Waiting}
+use Rattle.card.specs.declared.Waiting.the-variants.{Insert, Extract, Delete}
+use Rattle.card.specs.declared.Answer.{Answer}
+use Rattle.card.specs.declared.Done.{Done}
+use Rattle.card.specs.Answers.{orRefused}
+use Rattle.card.specs.Calls.{freshCard, listOf, beginTable, begun, minTable, foundMin, withdrawTable, withdrawn}
+use Rattle.card.specs.Finish.{leftBy, finishTable, finished}
+
+-- The card, the rack's tree, and the list that the last begin laid in its lent slice, with its counts.
+pub record World : Type 0 where
+  pub card : Card
+  pub tree : List ℕ
+  pub list : List ℕ
+  pub whole : ℕ
+  pub least : ℕ
+
+-- "A fresh tree is all dummies."
+abbrev pub freshWorld : Sizes → World
+freshWorld s = record { card = freshCard s; tree = freshTree (s .h) (s .z); list = []; whole = 0; least = 0 }
+
+-- What may be begun. A key is a 64-bit number; any other field may be any number at all.
+pub data Asked : Waiting → Type 0 where
+  insert : {key value : ℕ} {label first second : Leaf} → key ≤ dummyKey → Asked (Insert key value label first second)
+  extract : Asked Extract
+  delete : {label : Leaf} {stamp : Stamp} → Asked (Delete label stamp)
+
+-- A begin lends any list; a finish any words, into which the rack fetches before it and from which it stores after it.
+pub data Call : Type 0 where
+  begin : {w : Waiting} → Asked w → List ℕ → Call
+  finish : List ℕ → Call
+  withdraw : Call
+  findMin : Call
+
+-- What a call leaves and answers; `fetch` and `store` are the rack's numbers, 0 where it refuses nothing or is not called.
+pub record Outcome : Type 0 where
+  pub world : World
+  pub answer : Answer
+  pub fetch : ℕ
+  pub store : ℕ
+
+-- "card and lent slices are as before" where a number is given
+abbrev pub unless : {A : Type 0} → ℕ → A → A → A
+unless n done before = cond (eqb n 0) done before
+
+module _ (u : World) where
+  -- a call of the card alone: what it comes to, and the list that is held if it is not refused
+  abbrev pub alone : ℕ → Done → List ℕ → ℕ → ℕ → Outcome
+  alone n done list whole least =
+      record {
+        world = record {
+          card = orRefused (u .card) n done .card;
+          tree = u .tree;
+          list = unless n list (u .list);
+          whole = unless n whole (u .whole);
+          least = unless n least (u .least);
+        };
+        answer = orRefused (u .card) n done .answer;
+        fetch = 0;
+        store = 0;
+      }
+
+  -- the list that is held, and the rack's number for it
+  abbrev pub held : BucketList
+  held = listed (u .list) (u .whole) (u .least)
+
+  abbrev pub rackNumber : List ℕ → ℕ
+  rackNumber words = copyRefusal (u .card .sizes .h) (u .card .sizes .z) (u .tree) (u .list) (u .whole) (u .least) words
+
+  -- fetch
+  abbrev pub shown : List ℕ → List ℕ
+  shown words = afterwards (rackNumber words) (fetched (u .card .sizes .z) (u .tree) (held) words) words
+
+  -- finish, and then store; the list is then done with
+  abbrev pub finishNumber : List ℕ → ℕ
+  finishNumber ws = firstGiven (finishTable (u .card) ws)
+
+  abbrev pub wordsAfter : List ℕ → List ℕ
+  wordsAfter ws = unless (finishNumber ws) (wordsLeft (leftBy (u .card) (u .card .waiting) ws) ws) ws
+
+  abbrev pub storedFrom : List ℕ → List ℕ
+  storedFrom ws = afterwards (rackNumber ws) (stored (u .card .sizes .z) (held .whole) ws (u .tree)) (u .tree)
+
+  abbrev pub finishing : ℕ → List ℕ → Outcome
+  finishing fetch ws =
+      record {
+        world = record {
+          card = orRefused (u .card) (finishNumber ws) (finished (u .card) ws) .card;
+          tree = unless (finishNumber ws) (storedFrom (wordsAfter ws)) (u .tree);
+          list = unless (finishNumber ws) [] (u .list);
+          whole = unless (finishNumber ws) 0 (u .whole);
+          least = unless (finishNumber ws) 0 (u .least);
+        };
+        answer = orRefused (u .card) (finishNumber ws) (finished (u .card) ws) .answer;
+        fetch = fetch;
+        store = unless (finishNumber ws) (rackNumber (wordsAfter ws)) 0;
+      }
+
+  unfoldable pub step : Call → Outcome
+  step (begin {w} asked places) =
+      alone (firstGiven (beginTable (u .card) w (length places))) (begun (u .card) w)
+      (laid (listOf (u .card) w) places) (length (listOf (u .card) w .whole)) (length (listOf (u .card) w .least))
+  step (finish words) = finishing (rackNumber words) (shown words)
+  step withdraw = alone (firstGiven (withdrawTable (u .card))) (withdrawn (u .card)) [] 0 0
+  step findMin = alone (firstGiven (minTable (u .card))) (foundMin (u .card)) (u .list) (u .whole) (u .least)
+
+-- the outcomes of calls, one after the other
+unfoldable pub outcomes : World → List Call → List Outcome
+outcomes u [] = []
+outcomes u (c ∷ cs) = step u c ∷ outcomes (step u c .world) cs
