@@ -6,3 +6,13 @@
 // folder. Stands on `image`, `card`, `rack` and `told`.
 mod requests;
 mod store;
+
+pub use requests::nwidarap_delete;
+pub use requests::nwidarap_extract;
+pub use requests::nwidarap_find_min;
+pub use requests::nwidarap_insert;
+pub use requests::nwidarap_start;
+pub use requests::nwidarap_withdraw;
+pub use store::nwidarap_fetch;
+pub use store::nwidarap_fill;
+pub use store::nwidarap_store;
