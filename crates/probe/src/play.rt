@@ -40,26 +40,21 @@ fn play_card(head: &[u64], card: &mut [u64; 272], answer: &mut [u64; 6], list: &
     requires { ⌜ length (now head) ≡ 284 ⌝ }
 {
     let op = head[0];
+    let a = head[1];
+    let b = head[2];
+    let c = head[3];
+    let d = head[4];
     if op == START {
-        return driver::nwidarap_start(card, answer, head[1], head[2], head[3], head[4]);
+        return driver::nwidarap_start(card, answer, a, b, c, d);
     }
     if op == INSERT {
-        return driver::nwidarap_insert(
-            card,
-            answer,
-            head[1],
-            head[2],
-            head[3],
-            head[4],
-            head[5],
-            list,
-        );
+        return driver::nwidarap_insert(card, answer, a, b, c, d, head[5], list);
     }
     if op == EXTRACT {
         return driver::nwidarap_extract(card, answer, list);
     }
     if op == DELETE {
-        return driver::nwidarap_delete(card, answer, head[1], head[2], list);
+        return driver::nwidarap_delete(card, answer, a, b, list);
     }
     if op == FIND_MIN {
         return driver::nwidarap_find_min(card, answer);
