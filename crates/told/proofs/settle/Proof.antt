@@ -1,5 +1,6 @@
 -- `settle` meets its contract: a refusal writes nothing. Assumes nothing.
 use borrow.Author.Needs.{needs}
+use native.Mathlib.Omega.{arith}
 use mathlib.Core.Path.{_∙_}
 use Rattle.told.proofs.ToldLaws.{settled-refused, settled-done}
 use Rattle.told.proofs.settle.Statement.{statement}
@@ -10,7 +11,7 @@ number-of-requires c κs = search needs
 
 returns : tie.Need-returns
 returns c =
-    settled-refused (c .before .before .args .done) _ _ _ (c .before .number-of .ensures) (c .if1 .taken)
+    settled-refused (c .before .before .args .done) _ _ _ (c .before .number-of .ensures) (λ e. omega arith)
 
 values-of-requires : tie.Need-values-of-requires
 values-of-requires c κs = search needs
