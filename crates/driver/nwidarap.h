@@ -10,7 +10,11 @@
  * THE ANSWER is six words; those that do not apply are 0:
  *     begin      whole, least, 0, 0, 0, 0       how many of the listed buckets are whole, how many least-record only
  *     FindMin    key, value, label, stamp, 0, 0
+ *     finish     of Insert      0, 0, label, stamp, 0, words moved
+ *                of ExtractMin  key, value, label, stamp, 0, words moved
+ *                of Delete      0, 0, 0, 0, found, words moved        found: 1, or 0 where no live event has label and stamp
  *     others     0, 0, 0, 0, 0, 0
+ * Words moved are those fetched plus those stored: 16h(Z+1) + 8h - 8 for Insert, 4h(2Z+3) for the others.
  *
  * POINTERS. A slice is a pointer and a count of 64-bit words. No pointer may be null, not even with a count of 0. All must be
  * aligned for uint64_t. What is written must not overlap anything else that is handed to the same call; the proofs take
@@ -19,8 +23,8 @@
  * ONE REQUEST, from the card to the rack and back:
  *     begin on the card       -> the bucket list, with the two counts in the answer
  *     nwidarap_fetch          -> the listed buckets' words
- *     finish on the card      (to come)
- *     nwidarap_store          with the same list and counts
+ *     nwidarap_finish         works on the card and on these words
+ *     nwidarap_store          with the same list, counts and words, before the next begin
  * Until its finish the request waits on the card; nwidarap_withdraw drops it.
  */
 #ifndef NWIDARAP_H
@@ -91,6 +95,13 @@ uint64_t nwidarap_find_min(uint64_t card[NWIDARAP_CARD_WORDS], uint64_t answer[N
 
 /* Withdraw: drops the waiting request, and changes nothing else. 13, 3. */
 uint64_t nwidarap_withdraw(uint64_t card[NWIDARAP_CARD_WORDS], uint64_t answer[NWIDARAP_ANSWER_WORDS]);
+
+/* Finish of the request that waits, with the words fetched for its list: 8h(Z+1) + 8h - 8 words for Insert, 4h(Z+2) for the
+ * others; more may be lent, and words past these stay. Each whole bucket is written where it stands; the least-record words
+ * stay. One request more is finished, and none waits. A Delete that finds nothing is finished, and stored, like any other.
+ * 13, 3, 11, 12. After 12 the request still waits: finish may be tried again with other words. */
+uint64_t nwidarap_finish(uint64_t card[NWIDARAP_CARD_WORDS], uint64_t answer[NWIDARAP_ANSWER_WORDS], uint64_t *words,
+                         size_t words_words);
 
 /* ---- The rack. It is given h and Z alone. Its tree has exactly 4(Z+1)(2N-2) words: bucket n, 2 to 2N - 1, from word
  * 4(Z+1)(n-2) on, first its least record, then its Z slots. Refusals: 1, 11, 14. */

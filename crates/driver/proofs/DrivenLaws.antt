@@ -14,6 +14,7 @@ use Rattle.card.specs.declared.Done.{Done}
 use Rattle.card.specs.declared.Waiting.{Waiting}
 use Rattle.card.specs.Answers.{numberOf, Answered}
 use Rattle.card.specs.Calls.{listOf, beginTable, begun, Begins}
+use Rattle.card.specs.Finish.{finishTable, finished, Finishes}
 use Rattle.image.specs.Image.{imageOf}
 use Rattle.image.specs.Reading.{cardIn, oddKind}
 use Rattle.image.proofs.ImageLaws.{card-image, image-even}
@@ -23,7 +24,7 @@ use Rattle.rack.specs.Promises.{Answers}
 use Rattle.rack.specs.Refusals.{afterwards}
 use Rattle.told.specs.Told.{Called, Settled, Zeroed}
 use Rattle.told.proofs.ToldLaws.{called, card-left, one-call}
-use Rattle.driver.specs.Driven.{onCard, BeginsAt, Racked}
+use Rattle.driver.specs.Driven.{onCard, BeginsAt, leftOn, FinishesAt, Racked}
 
 -- ---- the kind comes first
 module _ (ws : List ℕ) (table : Card → List Refusal) where
@@ -68,6 +69,24 @@ module _ (w : Waiting) (ws told list : List ℕ) where
         places = rw (even-card ws table h, ← e) (b .places ∙ laid-or-kept (firstGiven (table k)) (laid (listOf k w) list) list);
       }
 
+-- ---- a finish
+module _ (ws told fetched : List ℕ) where
+  abbrev atEntry : Card → List Refusal
+  atEntry k = finishTable k fetched
+
+  pub odd-finish : oddKind ws ≡ true → FinishesAt ws told fetched 13 ws told fetched
+  odd-finish h =
+      record { call = odd-refused ws atEntry (λ k. finished k fetched) told h; words = rw (odd-card ws atEntry h) }
+
+  pub even-finish :
+      (k : Card) (d : Done) (n : ℕ) (ws′ told′ after : List ℕ) → oddKind ws ≡ false → k ≡ cardIn ws
+      → Finishes k fetched after d → Settled d ws told n ws′ told′ → FinishesAt ws told fetched n ws′ told′ after
+  even-finish k d n ws′ told′ after h e f s =
+      record {
+        call = even-called ws atEntry (λ k. finished k fetched) told k d n ws′ told′ h e (f .call) s;
+        words = rw (even-card ws atEntry h, ← e) (f .words ∙ laid-or-kept (firstGiven (atEntry k)) (leftOn k fetched) fetched);
+      }
+
 -- ---- a rack's call
 pub racked :
     (refusal : ℕ) (due told before : List ℕ) (a : Answer) (n : ℕ) (told′ after : List ℕ) → Answers refusal due before a after
@@ -93,6 +112,13 @@ pub one-begin :
     → ((n ≡ m) × ((held′ ≡ held″) × (told′ ≡ told″))) × (list′ ≡ list″)
 one-begin w held told list n m held′ told′ list′ held″ told″ list″ p q =
     (one-call _ _ _ _ _ _ _ _ _ _ (p .call) (q .call), p .places ∙ sym (q .places))
+
+pub one-finish :
+    (held told before : List ℕ) (n m : ℕ) (held′ told′ after held″ told″ later : List ℕ)
+    → FinishesAt held told before n held′ told′ after → FinishesAt held told before m held″ told″ later
+    → ((n ≡ m) × ((held′ ≡ held″) × (told′ ≡ told″))) × (after ≡ later)
+one-finish held told before n m held′ told′ after held″ told″ later p q =
+    (one-call _ _ _ _ _ _ _ _ _ _ (p .call) (q .call), p .words ∙ sym (q .words))
 
 pub one-rack :
     (refusal : ℕ) (due told before : List ℕ) (n m : ℕ) (told′ after told″ later : List ℕ)

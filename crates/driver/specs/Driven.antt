@@ -8,8 +8,10 @@ use Rattle.refusal.specs.Refusal.{Refusal, row, firstGiven}
 use Rattle.card.specs.declared.Card.{Card}
 use Rattle.card.specs.declared.Waiting.{Waiting}
 use Rattle.card.specs.Calls.{listOf, beginTable, begun}
+use Rattle.card.specs.Finish.{leftBy, finishTable, finished}
 use Rattle.image.specs.Reading.{cardIn, oddKind}
 use Rattle.rack.specs.Refusals.{afterwards}
+use Rattle.settle.specs.Left.{wordsLeft}
 use Rattle.told.specs.Told.{Called, Zeroed}
 
 -- the number of a call on the card of some words: 13 for a kind above 3, then as the card's own table says
@@ -23,6 +25,18 @@ beginNumber w held list = onCard held (λ k. beginTable k w (length list))
 pub record BeginsAt (w : Waiting) (held told list : List ℕ) (n : ℕ) (held′ told′ list′ : List ℕ) : Type 0 where
   pub call : Called (beginNumber w held list) (begun (cardIn held) w) held told n held′ told′
   pub places : list′ ≡ afterwards (beginNumber w held list) (laid (listOf (cardIn held) w) list) list
+
+-- A finish of the request that waits: "each bucket's part of the fetched words is written where it stands; sibling words,
+-- and any words past the list, stay".
+abbrev pub finishNumber : List ℕ → List ℕ → ℕ
+finishNumber held ws = onCard held (λ k. finishTable k ws)
+
+abbrev pub leftOn : Card → List ℕ → List ℕ
+leftOn k ws = wordsLeft (leftBy k (k .waiting) ws) ws
+
+pub record FinishesAt (held told before : List ℕ) (n : ℕ) (held′ told′ after : List ℕ) : Type 0 where
+  pub call : Called (finishNumber held before) (finished (cardIn held) before) held told n held′ told′
+  pub words : after ≡ afterwards (finishNumber held before) (leftOn (cardIn held) before) before
 
 -- A call on a rack with this refusal, which writes what is due to the slice that was lent for it.
 pub record Racked (refusal : ℕ) (due told before : List ℕ) (n : ℕ) (told′ after : List ℕ) : Type 0 where

@@ -10,6 +10,7 @@ mod store;
 pub use requests::nwidarap_delete;
 pub use requests::nwidarap_extract;
 pub use requests::nwidarap_find_min;
+pub use requests::nwidarap_finish;
 pub use requests::nwidarap_insert;
 pub use requests::nwidarap_start;
 pub use requests::nwidarap_withdraw;

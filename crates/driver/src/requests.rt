@@ -4,7 +4,7 @@ ghost use Rattle.path.specs.Sizes.{sizesOf};
 ghost use Rattle.card.specs.Calls.{startTable, started, minTable, foundMin, withdrawTable, withdrawn};
 ghost use Rattle.image.specs.Reading.{cardIn};
 ghost use Rattle.refusal.specs.Refusal.{firstGiven};
-ghost use Rattle.driver.specs.Driven.{onCard, BeginsAt};
+ghost use Rattle.driver.specs.Driven.{onCard, BeginsAt, FinishesAt};
 ghost use Rattle.told.specs.Told.{Called};
 use card::Card;
 use card::Waiting;
@@ -103,5 +103,21 @@ pub extern "C" fn nwidarap_withdraw(card: &mut [u64; 272], answer: &mut [u64; 6]
     }
     let held = image::read(card);
     let done = held.withdraw();
+    told::settle(done, card, answer)
+}
+
+#[no_mangle]
+pub extern "C" fn nwidarap_finish(
+    card: &mut [u64; 272],
+    answer: &mut [u64; 6],
+    words: &mut [u64],
+) -> u64
+    ensures { λ n. ⌜ FinishesAt (now (card .entry)) (now (answer .entry)) (now (words .entry)) n (now (card .exit)) (now (answer .exit)) (now (words .exit)) ⌝ }
+{
+    if image::is_odd(card) {
+        return BAD_CARD;
+    }
+    let held = image::read(card);
+    let done = held.finish(words);
     told::settle(done, card, answer)
 }
