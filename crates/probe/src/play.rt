@@ -15,7 +15,6 @@ const FIND_MIN: u64 = 5;
 
 const WITHDRAW: u64 = 6;
 
-// The driver has no finish yet: a frame with this op ends the program.
 const FINISH: u64 = 7;
 
 const FILL: u64 = 8;
@@ -29,14 +28,17 @@ pub(crate) fn is_op(op: u64) -> bool {
     if op < START {
         return false;
     }
-    if op == FINISH {
-        return false;
-    }
     op <= STORE
 }
 
 // A call on a card. The op is word 0 of the head, its arguments are words 1 to 8.
-fn play_card(head: &[u64], card: &mut [u64; 272], answer: &mut [u64; 6], list: &mut [u64]) -> u64
+fn play_card(
+    head: &[u64],
+    card: &mut [u64; 272],
+    answer: &mut [u64; 6],
+    list: &mut [u64],
+    words: &mut [u64],
+) -> u64
     requires { ⌜ length (now head) ≡ 284 ⌝ }
 {
     let op = head[0];
@@ -59,7 +61,10 @@ fn play_card(head: &[u64], card: &mut [u64; 272], answer: &mut [u64; 6], list: &
     if op == FIND_MIN {
         return driver::nwidarap_find_min(card, answer);
     }
-    driver::nwidarap_withdraw(card, answer)
+    if op == WITHDRAW {
+        return driver::nwidarap_withdraw(card, answer);
+    }
+    driver::nwidarap_finish(card, answer, words)
 }
 
 // A call on a rack.
@@ -96,8 +101,8 @@ pub(crate) fn play(
 ) -> u64
     requires { ⌜ length (now head) ≡ 284 ⌝ }
 {
-    if head[0] < FINISH {
-        return play_card(head, card, answer, list);
+    if head[0] <= FINISH {
+        return play_card(head, card, answer, list, words);
     }
     play_rack(head, answer, list, words, tree)
 }
