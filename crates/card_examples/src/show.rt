@@ -13,11 +13,11 @@ fn record(r: Record) {
     line::number(r.stamp.0);
 }
 
-// What a call answered: the paper's number, then its values; the last of FindMin's is the words moved.
+// What a call answered: the paper's number, then its values; the last of FindMin's is the words moved. No call here is a
+// finish, so the others have none.
 pub(crate) fn answer(done: Done) {
     let given = done.answer;
     match given {
-        Answer::Started => line::number(0),
         Answer::Listed { whole, least } => {
             line::number(0);
             line::number(whole as u64);
@@ -28,8 +28,8 @@ pub(crate) fn answer(done: Done) {
             record(least);
             line::number(0);
         }
-        Answer::Withdrawn => line::number(0),
         Answer::Refused(number) => line::number(number),
+        _ => line::number(0),
     }
 }
 
@@ -38,10 +38,7 @@ pub(crate) fn verdict(done: Done) {
     let given = done.answer;
     match given {
         Answer::Refused(number) => line::number(number),
-        Answer::Started => line::number(0),
-        Answer::Listed { whole: _, least: _ } => line::number(0),
-        Answer::Least(_) => line::number(0),
-        Answer::Withdrawn => line::number(0),
+        _ => line::number(0),
     }
 }
 

@@ -4,4 +4,5 @@ pub mod DamagedLaws
 pub mod FetchedLaws
 pub mod OnceLaws
 pub mod Found
+pub mod Empty
 pub mod Checking

@@ -24,7 +24,7 @@ use settle::path_words;
 use settle::unsettled;
 use settle::way_words;
 
-// The live events after a removal. None is found where none is live, so c - 1 never wraps.
+// The live events after a removal. None is found where none is live (`found-live`), so c - 1 never falls below 0.
 fn live_after(c: u64, found: bool) -> u64
     ensures { λ n. ⌜ n ≡ cond found (c - 1) c ⌝ }
 {

@@ -1,0 +1,58 @@
+-- A removal that finds its record finds a live event: where none is live, a path that is not Damaged has dummies alone. So
+-- the count of live events never falls below 0. Assumes nothing.
+use Prim.Native.Nat.{ℕ, _+_, _*_, _≤_}
+use mathlib.Core.Bool.{Bool, true, false, true≢false}
+use mathlib.Core.List.{List}
+use mathlib.Core.Logic.{inl, inr}
+use mathlib.Core.Path.{_≡_, refl, sym, _∙_}
+use mathlib.Mathlib.Data.Bool.Basic.{dichotomy}
+use native.Mathlib.Decide.{decLe}
+use native.Mathlib.Omega.{arith}
+use lib.ListN.{length}
+use Rattle.record.specs.declared.Leaf.{Leaf}
+use Rattle.record.specs.declared.Stamp.{Stamp}
+use Rattle.record.specs.declared.Record.{Record}
+use Rattle.record.specs.Standing.{dummy, isDummy}
+use Rattle.record.proofs.StandingLaws.{dummy-is, is-dummy}
+use Rattle.path.specs.declared.sizes.Sizes.{Sizes}
+use Rattle.gather.specs.Removal.{named, found}
+use Rattle.damage.specs.Damaged.{pathFetched, pathDamaged}
+use Rattle.damage.proofs.Empty.{none-found}
+use Rattle.judge.specs.BadParts.{stampOf, oddLeast}
+use Rattle.judge.proofs.FitLaws.{Fit, neither}
+use Rattle.settle.specs.Left.{pathWay, removal, removalDamaged}
+use Rattle.settle.specs.Room.{RemovalRoom}
+
+-- the dummy has no name
+nameless : (l : Leaf) (s : Stamp) → named l s dummy ≡ false
+unfolding named
+nameless l s = rw is-dummy
+
+-- the least record of no live events is the dummy
+no-least : (n : ℕ) (next : Stamp) (least : Record) → oddLeast n next 0 least ≡ false → least ≡ dummy
+unfolding oddLeast
+no-least n next least e = elim (dichotomy (isDummy least)) [
+  | inl f ↦ absurd (true≢false (rw f at e))
+  | inr t ↦ dummy-is least t
+]
+
+module _ (s : Sizes) (t c : ℕ) (root : List Record) (least : Record) (ws : List ℕ) (label : Leaf) (stamp : Stamp)
+    (fit : Fit s t c root least) (full : s .r ≤ length root) (room : RemovalRoom s t c label ws)
+    (good : removalDamaged s t c root least ws label (named label stamp) ≡ false) where
+  fetched-good : pathDamaged (s .h) (s .r) (stampOf t) least (pathFetched (s .h) (s .z) label ws) (pathWay s c root ws) ≡ false
+  unfolding removalDamaged
+  fetched-good = neither _ _ good .0
+
+  none-there : c ≡ 0 → found (named label stamp) (pathWay s c root ws) ≡ false
+  none-there e =
+      let empty = no-least _ _ least (rw e at (fit .odd)) in
+      let k = room .fetched in
+      let given : 4 * ((0 + s .h) * (s .z + 1)) ≤ length ws = omega arith in
+      none-found (s .h) (s .z) (s .r) root ws full given (stampOf t) label (fit .slots) (rw empty at fetched-good) (named label stamp) (nameless label stamp)
+
+  pub found-live : removal s c root ws label (named label stamp) .found ≡ true → 1 ≤ c
+  unfolding removal
+  found-live e = elim (decLe 1 c) [
+    | yes l ↦ l
+    | no l ↦ absurd (true≢false (sym e ∙ none-there (omega arith)))
+  ]
