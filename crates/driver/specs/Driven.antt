@@ -1,0 +1,44 @@
+-- What each call by a driver comes to, on every input. Primes mark what stands after the call. Assumes nothing.
+use Prim.Native.Nat.{ℕ}
+use mathlib.Core.List.{List, _∷_}
+use mathlib.Core.Path.{_≡_}
+use lib.ListN.{length}
+use Rattle.path.specs.BucketList.{laid}
+use Rattle.refusal.specs.Refusal.{Refusal, row, firstGiven}
+use Rattle.card.specs.declared.Card.{Card}
+use Rattle.card.specs.declared.Waiting.{Waiting}
+use Rattle.card.specs.Calls.{listOf, beginTable, begun}
+use Rattle.card.specs.Finish.{leftBy, finishTable, finished}
+use Rattle.image.specs.Reading.{cardIn, oddKind}
+use Rattle.rack.specs.Refusals.{afterwards}
+use Rattle.settle.specs.Left.{wordsLeft}
+use Rattle.told.specs.Told.{Called, Zeroed}
+
+-- the number of a call on the card of some words: 13 for a kind above 3, then as the card's own table says
+abbrev pub onCard : List ℕ → (Card → List Refusal) → ℕ
+onCard ws table = firstGiven (row 13 (oddKind ws) ∷ table (cardIn ws))
+
+-- A begin of request w, which names buckets in a lent list: places past the last number stay.
+abbrev pub beginNumber : Waiting → List ℕ → List ℕ → ℕ
+beginNumber w held list = onCard held (λ k. beginTable k w (length list))
+
+pub record BeginsAt (w : Waiting) (held told list : List ℕ) (n : ℕ) (held′ told′ list′ : List ℕ) : Type 0 where
+  pub call : Called (beginNumber w held list) (begun (cardIn held) w) held told n held′ told′
+  pub places : list′ ≡ afterwards (beginNumber w held list) (laid (listOf (cardIn held) w) list) list
+
+-- A finish of the request that waits: "each bucket's part of the fetched words is written where it stands; sibling words,
+-- and any words past the list, stay".
+abbrev pub finishNumber : List ℕ → List ℕ → ℕ
+finishNumber held ws = onCard held (λ k. finishTable k ws)
+
+abbrev pub leftOn : Card → List ℕ → List ℕ
+leftOn k ws = wordsLeft (leftBy k (k .waiting) ws) ws
+
+pub record FinishesAt (held told before : List ℕ) (n : ℕ) (held′ told′ after : List ℕ) : Type 0 where
+  pub call : Called (finishNumber held before) (finished (cardIn held) before) held told n held′ told′
+  pub words : after ≡ afterwards (finishNumber held before) (leftOn (cardIn held) before) before
+
+-- A call on a rack with this refusal, which writes what is due to the slice that was lent for it.
+pub record Racked (refusal : ℕ) (due told before : List ℕ) (n : ℕ) (told′ after : List ℕ) : Type 0 where
+  pub call : Zeroed refusal told n told′
+  pub lent : after ≡ afterwards refusal due before

@@ -1,0 +1,2 @@
+-- What a reader must believe of the driver's entrance.
+pub mod Driven

@@ -1,0 +1,123 @@
+// The calls on a card: document 01, "A request, step by step". A kind above 3 is no card's and gives 13, which comes
+// first in every order but start's.
+ghost use Rattle.path.specs.Sizes.{sizesOf};
+ghost use Rattle.card.specs.Calls.{startTable, started, minTable, foundMin, withdrawTable, withdrawn};
+ghost use Rattle.image.specs.Reading.{cardIn};
+ghost use Rattle.refusal.specs.Refusal.{firstGiven};
+ghost use Rattle.driver.specs.Driven.{onCard, BeginsAt, FinishesAt};
+ghost use Rattle.told.specs.Told.{Called};
+use card::Card;
+use card::Waiting;
+use record::Leaf;
+use record::Stamp;
+use refusal::BAD_CARD;
+
+#[no_mangle]
+pub extern "C" fn nwidarap_start(
+    card: &mut [u64; 272],
+    answer: &mut [u64; 6],
+    h: u64,
+    z: u64,
+    r: u64,
+    t: u64,
+) -> u64
+    ensures { λ n. ⌜ Called (firstGiven (startTable (sizesOf h z r t))) (started (sizesOf h z r t)) (now (card .entry)) (now (answer .entry)) n (now (card .exit)) (now (answer .exit)) ⌝ }
+{
+    let done = Card::start(h, z, r, t);
+    told::settle(done, card, answer)
+}
+
+#[no_mangle]
+pub extern "C" fn nwidarap_insert(
+    card: &mut [u64; 272],
+    answer: &mut [u64; 6],
+    key: u64,
+    value: u64,
+    label: u64,
+    first: u64,
+    second: u64,
+    list: &mut [u64],
+) -> u64
+    ensures { λ n. ⌜ BeginsAt (Waiting.Insert key value (record { 0 = label }) (record { 0 = first }) (record { 0 = second })) (now (card .entry)) (now (answer .entry)) (now (list .entry)) n (now (card .exit)) (now (answer .exit)) (now (list .exit)) ⌝ }
+{
+    if image::is_odd(card) {
+        return BAD_CARD;
+    }
+    let held = image::read(card);
+    let done = held.begin_insert(key, value, Leaf(label), Leaf(first), Leaf(second), list);
+    told::settle(done, card, answer)
+}
+
+#[no_mangle]
+pub extern "C" fn nwidarap_extract(
+    card: &mut [u64; 272],
+    answer: &mut [u64; 6],
+    list: &mut [u64],
+) -> u64
+    ensures { λ n. ⌜ BeginsAt Waiting.Extract (now (card .entry)) (now (answer .entry)) (now (list .entry)) n (now (card .exit)) (now (answer .exit)) (now (list .exit)) ⌝ }
+{
+    if image::is_odd(card) {
+        return BAD_CARD;
+    }
+    let held = image::read(card);
+    let done = held.begin_extract(list);
+    told::settle(done, card, answer)
+}
+
+#[no_mangle]
+pub extern "C" fn nwidarap_delete(
+    card: &mut [u64; 272],
+    answer: &mut [u64; 6],
+    label: u64,
+    stamp: u64,
+    list: &mut [u64],
+) -> u64
+    ensures { λ n. ⌜ BeginsAt (Waiting.Delete (record { 0 = label }) (record { 0 = stamp })) (now (card .entry)) (now (answer .entry)) (now (list .entry)) n (now (card .exit)) (now (answer .exit)) (now (list .exit)) ⌝ }
+{
+    if image::is_odd(card) {
+        return BAD_CARD;
+    }
+    let held = image::read(card);
+    let done = held.begin_delete(Leaf(label), Stamp(stamp), list);
+    told::settle(done, card, answer)
+}
+
+#[no_mangle]
+pub extern "C" fn nwidarap_find_min(card: &mut [u64; 272], answer: &mut [u64; 6]) -> u64
+    ensures { λ n. ⌜ Called (onCard (now (card .entry)) minTable) (foundMin (cardIn (now (card .entry)))) (now (card .entry)) (now (answer .entry)) n (now (card .exit)) (now (answer .exit)) ⌝ }
+{
+    if image::is_odd(card) {
+        return BAD_CARD;
+    }
+    let held = image::read(card);
+    let done = held.find_min();
+    told::settle(done, card, answer)
+}
+
+#[no_mangle]
+pub extern "C" fn nwidarap_withdraw(card: &mut [u64; 272], answer: &mut [u64; 6]) -> u64
+    ensures { λ n. ⌜ Called (onCard (now (card .entry)) withdrawTable) (withdrawn (cardIn (now (card .entry)))) (now (card .entry)) (now (answer .entry)) n (now (card .exit)) (now (answer .exit)) ⌝ }
+{
+    if image::is_odd(card) {
+        return BAD_CARD;
+    }
+    let held = image::read(card);
+    let done = held.withdraw();
+    told::settle(done, card, answer)
+}
+
+#[no_mangle]
+pub extern "C" fn nwidarap_finish(
+    card: &mut [u64; 272],
+    answer: &mut [u64; 6],
+    words: &mut [u64],
+) -> u64
+    ensures { λ n. ⌜ FinishesAt (now (card .entry)) (now (answer .entry)) (now (words .entry)) n (now (card .exit)) (now (answer .exit)) (now (words .exit)) ⌝ }
+{
+    if image::is_odd(card) {
+        return BAD_CARD;
+    }
+    let held = image::read(card);
+    let done = held.finish(words);
+    told::settle(done, card, answer)
+}

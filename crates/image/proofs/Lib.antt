@@ -1,0 +1,2 @@
+-- The laws of a card in words that crates above cite.
+pub mod ImageLaws

@@ -1,0 +1,165 @@
+// The card as 272 words, which is how a driver keeps it: document 01, "The card is a value that goes in with a call and
+// comes out of it".
+//
+// Words 0 to 3 are h, Z, R and T, 4 and 5 are t and c, 6 is the kind of the waiting request and 7 to 11 are its fields; the
+// root's least record follows, then the root's 64 places. Fields that a kind does not use are ignored coming in and 0
+// going out. Stands on `record`, `path`, `card` and, for the root's places, on `gather`.
+ghost use mathlib.Core.Path.{_≡_};
+ghost use lib.ListN.{length};
+ghost use Rattle.image.specs.Image.{requestWords, headOf, imageOf};
+ghost use Rattle.image.specs.Reading.{waitingOf, cardIn, oddKind};
+use card::Card;
+use card::Waiting;
+use path::Sizes;
+use record::Leaf;
+use record::Record;
+use record::Stamp;
+
+// The kinds of a waiting request. A card is never read with another: whoever lends one is told that it is bad.
+pub const KIND_NOTHING: u64 = 0;
+
+pub const KIND_INSERT: u64 = 1;
+
+pub const KIND_EXTRACT: u64 = 2;
+
+pub const KIND_DELETE: u64 = 3;
+
+// The word that holds the kind.
+const KIND_AT: usize = 6;
+
+// How many records the words before the root's least one would make.
+const HEAD_PLACES: usize = 3;
+
+// The first word of the root's places, and how many places there are.
+const ROOT_AT: usize = 16;
+
+const ROOT_PLACES: usize = 64;
+
+// Whether the kind is none of the four: `Waiting` has no such case, so no card stands for these words.
+pub fn is_odd(words: &[u64; 272]) -> bool
+    ensures { λ b. ⌜ b ≡ oddKind (now (words .entry)) ⌝ }
+{
+    words[KIND_AT] > KIND_DELETE
+}
+
+// The request of a kind and five fields; of a kind above 3 it makes none.
+fn waiting_of(kind: u64, a: u64, b: u64, c: u64, d: u64, e: u64) -> Waiting
+    ensures { λ w. ⌜ w ≡ waitingOf kind a b c d e ⌝ }
+{
+    if kind == KIND_INSERT {
+        return Waiting::Insert {
+            key: a,
+            value: b,
+            label: Leaf(c),
+            first: Leaf(d),
+            second: Leaf(e),
+        };
+    }
+    if kind == KIND_EXTRACT {
+        return Waiting::Extract;
+    }
+    if kind == KIND_DELETE {
+        return Waiting::Delete {
+            label: Leaf(a),
+            stamp: Stamp(b),
+        };
+    }
+    Waiting::Nothing
+}
+
+// Its kind and its five fields, 0 where the kind has fewer.
+fn request_words(waiting: Waiting) -> [u64; 6]
+    ensures { λ r. ⌜ r ≡ requestWords waiting ⌝ }
+{
+    match waiting {
+        Waiting::Nothing => [KIND_NOTHING, 0, 0, 0, 0, 0],
+        Waiting::Insert {
+            key,
+            value,
+            label,
+            first,
+            second,
+        } => [KIND_INSERT, key, value, label.0, first.0, second.0],
+        Waiting::Extract => [KIND_EXTRACT, 0, 0, 0, 0, 0],
+        Waiting::Delete { label, stamp } => [KIND_DELETE, label.0, stamp.0, 0, 0, 0],
+    }
+}
+
+// The words before the records.
+fn head_words(sizes: Sizes, t: u64, c: u64, waiting: Waiting) -> [u64; 12]
+    ensures { λ r. ⌜ r ≡ headOf sizes t c waiting ⌝ }
+{
+    let q = request_words(waiting);
+    [
+        sizes.h,
+        sizes.z,
+        sizes.r,
+        sizes.t,
+        t,
+        c,
+        q[0],
+        q[1],
+        q[2],
+        q[3],
+        q[4],
+        q[5],
+    ]
+}
+
+fn read_slice(words: &[u64]) -> Card
+    requires { ⌜ length (now words) ≡ 272 ⌝ }
+    ensures { λ k. ⌜ k ≡ cardIn (now (words .entry)) ⌝ }
+{
+    let sizes = Sizes {
+        h: words[0],
+        z: words[1],
+        r: words[2],
+        t: words[3],
+    };
+    let waiting = waiting_of(
+        words[KIND_AT],
+        words[7],
+        words[8],
+        words[9],
+        words[10],
+        words[11],
+    );
+    let least = Record::read(words, HEAD_PLACES);
+    let places = [Record::DUMMY; 64];
+    let root = gather::save_root(&words[ROOT_AT..], places, ROOT_PLACES);
+    Card {
+        sizes: sizes,
+        t: words[4],
+        c: words[5],
+        root: root,
+        least: least,
+        waiting: waiting,
+    }
+}
+
+fn write_slice(card: Card, words: &mut [u64])
+    requires { ⌜ length (now words) ≡ 272 ⌝ }
+    ensures { λ _. ⌜ now (words .exit) ≡ imageOf card ⌝ }
+{
+    let root = card.root;
+    let least = card.least;
+    let waiting = card.waiting;
+    let head = head_words(card.sizes, card.t, card.c, waiting);
+    gather::copy(words, 0, &head, 0, HEAD_PLACES);
+    least.write(words, HEAD_PLACES);
+    gather::load_root(&mut words[ROOT_AT..], root, ROOT_PLACES);
+}
+
+// The card that the words stand for.
+pub fn read(words: &[u64; 272]) -> Card
+    ensures { λ k. ⌜ k ≡ cardIn (now (words .entry)) ⌝ }
+{
+    read_slice(words)
+}
+
+// All 272 words of the card.
+pub fn write(card: Card, words: &mut [u64; 272])
+    ensures { λ _. ⌜ now (words .exit) ≡ imageOf card ⌝ }
+{
+    write_slice(card, words);
+}

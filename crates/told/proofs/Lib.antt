@@ -1,0 +1,2 @@
+-- The laws of what a driver is told that crates above cite.
+pub mod ToldLaws

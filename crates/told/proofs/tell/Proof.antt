@@ -1,0 +1,28 @@
+-- `tell` meets its contract: a refusal writes nothing. Assumes nothing.
+use borrow.Author.Needs.{needs}
+use mathlib.Core.Path.{_≡_, sym, _∙_}
+use Rattle.rack.specs.Answers.{answerNumber}
+use Rattle.told.proofs.ToldLaws.{kept}
+use Rattle.told.proofs.tell.Statement.{statement}
+use Rattle.told.proofs.tell.Tie as tie
+
+number-requires : tie.Need-number-requires
+number-requires c κs = search needs
+
+fill-requires : tie.Need-fill-requires
+fill-requires c κs = search needs
+
+returns : tie.Need-returns
+returns c =
+    let e : answerNumber (c .before .before .before .before .args .said) ≡ 0 = sym (c .before .before .before .number .ensures) ∙ c .before .before .if1 .taken in
+    record { number = c .before .before .before .number .ensures; answer = rw e (c .fill .ensures) }
+
+returns-2 : tie.Need-returns-2
+returns-2 c =
+    record {
+      number = c .before .number .ensures;
+      answer = sym (kept (answerNumber (c .before .before .args .said)) _ _ (λ e. c .if1 .left (c .before .number .ensures ∙ e)));
+    }
+
+pub tell-spec : {M : Type 1} → statement M
+tell-spec = tie.close (tie.spec number-requires fill-requires returns returns-2)

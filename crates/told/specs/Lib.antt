@@ -1,0 +1,2 @@
+-- What a reader must believe of what a driver is told.
+pub mod Told
