@@ -18,7 +18,7 @@ use Rattle.card.specs.Answers.{numberOf, refused, orRefused, Answered}
 use Rattle.card.specs.Calls.{withWaiting, listOf, beginTable, begun, Begins}
 use Rattle.card.specs.Finish.{finished}
 use Rattle.card.proofs.AnswerLaws.{is-refused, is-done}
-use Rattle.rounds.specs.Round.{orElse, listPlaces, countsIn, shown, carryRefusal, treeLeft, Carries, Plays}
+use Rattle.rounds.specs.Round.{orElse, listPlaces, countsIn, shown, carryRefusal, treeLeft, Carries, Plays, roundRefusal, roundDone, roundTree}
 
 -- ---- the first of two refusals
 pub or-first : (m n : ℕ) → (m ≡ 0 → ⊥) → orElse m n ≡ m
@@ -93,3 +93,8 @@ module _ (k : Card) (w : Waiting) (tree : List ℕ) where
 
     pub plays : Plays k w tree after d
     plays = either begins refl
+
+  -- a round comes to what its equations say
+  pub comes-to : (after : List ℕ) (d : Done) → Plays k w tree after d → (d ≡ roundDone k w tree) × (after ≡ roundTree k w tree)
+  unfolding roundRefusal roundDone roundTree
+  comes-to after d p = (p .call .whole, p .lent)

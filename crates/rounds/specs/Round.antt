@@ -16,7 +16,7 @@ use Rattle.card.specs.declared.Waiting.{Waiting}
 use Rattle.card.specs.declared.Answer.{Answer}
 use Rattle.card.specs.declared.Answer.the-variants.{Started, Listed, Least, Withdrawn, Inserted, Extracted, Deleted, Refused}
 use Rattle.card.specs.declared.Done.{Done}
-use Rattle.card.specs.Answers.{Answered}
+use Rattle.card.specs.Answers.{orRefused, Answered}
 use Rattle.card.specs.Calls.{withWaiting, listOf, beginTable}
 use Rattle.card.specs.Finish.{leftBy, finishTable, finished}
 
@@ -73,3 +73,19 @@ pub record Carries (k : Card) (before : ℕ) (begun : Card) (list : List ℕ) (n
 abbrev pub Plays : Card → Waiting → List ℕ → List ℕ → Done → Type 0
 Plays k w tree after answer =
     Carries k (firstGiven (beginTable k w (length listPlaces))) (withWaiting k w) (laid (listOf k w) listPlaces) (counts (listOf k w)) (listOf k w) tree after answer
+
+-- and what such a round comes to, as an equation: its refusal, its answer with the card, and the tree
+module _ (k : Card) (w : Waiting) (tree : List ℕ) where
+  unfoldable pub roundRefusal : ℕ
+  roundRefusal =
+      orElse (firstGiven (beginTable k w (length listPlaces)))
+      (carryRefusal (withWaiting k w) (laid (listOf k w) listPlaces) (counts (listOf k w)) (listOf k w) tree)
+
+  unfoldable pub roundDone : Done
+  roundDone =
+      orRefused k roundRefusal (finished (withWaiting k w) (fetched (k .sizes .z) tree (listOf k w) wordPlaces))
+
+  unfoldable pub roundTree : List ℕ
+  roundTree =
+      afterwards roundRefusal
+      (treeLeft (withWaiting k w) (laid (listOf k w) listPlaces) (counts (listOf k w)) (listOf k w) tree) tree
