@@ -1,0 +1,2 @@
+-- The paper's table, as one theorem.
+pub mod Paper

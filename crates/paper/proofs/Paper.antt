@@ -1,0 +1,52 @@
+-- P1 to P12 under one theorem, by computation of the definitions that the promises cite. Assumes nothing.
+use mathlib.Core.List.{flatMap}
+use mathlib.Core.Path.{_≡_, refl}
+use Rattle.record.specs.Many.{every, reals, bears, stampTwice}
+use Rattle.record.specs.Order.{noLater, smallerBy, smallestBy}
+use Rattle.record.specs.Standing.{same, isDummy, known, isProper, mayStand}
+use Rattle.record.specs.Words.{records, wordsOf}
+use Rattle.path.specs.BucketList.{pairList, pathList, sum, wordsMoved}
+use Rattle.path.specs.Path.{pathBucket, holds, siblingOf, upFrom, path}
+use Rattle.path.specs.Sizes.{between, treeIn, inRange}
+use Rattle.refusal.specs.Refusal.{firstGiven}
+use Rattle.root.specs.Root.{strangeSlot, usedPast, stampShared, rootRecords, greaterThanSome, rootFull}
+use Rattle.way.specs.Evict.{seek, fits, movedTo, pull, pulls, evictUp, evict}
+use Rattle.way.specs.Least.{slotsAt, inOrder, kids}
+use Rattle.gather.specs.Removal.{named, found, removed}
+use Rattle.gather.specs.Shown.{wholeAt, siblingAt, siblingsShown, slotsShown, wayShown}
+use Rattle.mend.specs.Mended.{pathWords}
+use Rattle.damage.specs.Damage.{sound, pathSound, siblingsSound, kidsShown, leastsTrue}
+use Rattle.damage.specs.Damaged.{pathDamaged, pairDamaged}
+use Rattle.work.specs.Work.{pathBuckets, rootAfter, leastAfter, seated}
+use Rattle.judge.specs.BadParts.{oddLeast, badParts}
+use Rattle.settle.specs.Left.{removal, insertion, removalDamaged, insertionDamaged}
+use Rattle.card.specs.Answers.{orRefused}
+use Rattle.card.specs.BadCard.{badCard}
+use Rattle.card.specs.Calls.{startTable, listOf, beginTable, minTable}
+use Rattle.card.specs.Finish.{leftBy, damagedBy, entryTable, finishedBy}
+use Rattle.card.specs.Tables.{insertRows, extractRows, deleteRows, requestRows, waits}
+use Rattle.rack.specs.Answers.{anyOutside}
+use Rattle.rack.specs.Copy.{stored}
+use Rattle.decimal.specs.Digits.{digits, fewest, valueFrom}
+use Rattle.decimal.specs.Field.{allDigits, isNumber}
+use Rattle.lines.specs.Behind.{behind}
+use Rattle.lines.specs.Pieces.{pieces, before, same as sameBytes}
+use Rattle.lines.specs.Says.{allNumbers, saidOf, saidBy, lineSays}
+use Rattle.frames.specs.Answer.{answerLine}
+use Rattle.rounds.specs.Round.{rackRefusal, finishRefusal, treeLeft, roundRefusal, roundDone, roundTree}
+use Rattle.turns.specs.Step.{wordsOf as turnWords, sizedTo, askedFor, minOf, stepOf}
+use Rattle.paper.specs.Run.{opened, given, stated}
+use Rattle.paper.specs.Table.{table}
+
+pub paper : given opened table ≡ stated table
+unfolding flatMap every reals bears stampTwice noLater smallerBy smallestBy same isDummy known isProper mayStand
+    records wordsOf pairList pathList sum wordsMoved pathBucket holds siblingOf upFrom path between treeIn inRange
+    firstGiven strangeSlot usedPast stampShared rootRecords greaterThanSome rootFull seek fits movedTo pull pulls
+    evictUp evict slotsAt inOrder kids named found removed wholeAt siblingAt siblingsShown slotsShown wayShown
+    pathWords sound pathSound siblingsSound kidsShown leastsTrue pathDamaged pairDamaged pathBuckets rootAfter
+    leastAfter seated oddLeast badParts removal insertion removalDamaged insertionDamaged orRefused badCard startTable
+    listOf beginTable minTable leftBy damagedBy entryTable finishedBy insertRows extractRows deleteRows requestRows
+    waits anyOutside stored digits fewest valueFrom allDigits isNumber behind pieces before sameBytes allNumbers saidOf
+    saidBy lineSays answerLine rackRefusal finishRefusal treeLeft roundRefusal roundDone roundTree turnWords sizedTo
+    askedFor minOf stepOf given stated
+paper = refl

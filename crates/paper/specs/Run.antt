@@ -1,0 +1,56 @@
+-- Lines played one after another, and what is looked at behind each: document 01, "Input, then whole output". Assumes nothing.
+use Prim.Native.Nat.{ℕ}
+use mathlib.Core.Bool.{false}
+use mathlib.Core.List.{List, [], _∷_}
+use lib.ListN.{length, replicate, drop}
+use Rattle.path.specs.Path.{bucket}
+use Rattle.path.specs.Layout.{recordWords}
+use Rattle.path.specs.BucketList.{numbers}
+use Rattle.rack.specs.Copy.{bucketPart}
+use Rattle.card.specs.declared.Waiting.{Waiting}
+use Rattle.card.specs.Calls.{zeroCard, listOf}
+use Rattle.lines.specs.Says.{lineSays}
+use Rattle.turns.specs.declared.Desk.{Desk}
+use Rattle.turns.specs.Step.{Left, nothing, stepOf}
+use Rattle.replies.specs.Reply.{bytesOf}
+
+-- a line in bytes, without its end, and what it prints; then something that is looked at after it, and what that shows
+pub record Row : Type 0 where
+  pub line : List ℕ
+  pub prints : List ℕ
+  pub look : Left → List ℕ
+  pub shows : List ℕ
+
+-- the desk before the first line, with 8,192 words lent
+abbrev pub shut : Desk
+shut = record { sized = false; card = zeroCard }
+
+abbrev pub opened : Left
+opened = nothing shut (replicate 8192 0)
+
+abbrev pub nextOf : Left → Row → Left
+nextOf l r = stepOf (l .turn .desk) (lineSays (r .line)) (l .tree)
+
+-- what is given, row by row, and what the paper states
+unfoldable pub given : Left → List Row → List (List ℕ)
+given l [] = []
+given l (r ∷ rs) = bytesOf (nextOf l r .turn .reply) ∷ r .look (nextOf l r) ∷ given (nextOf l r) rs
+
+unfoldable pub stated : List Row → List (List ℕ)
+stated [] = []
+stated (r ∷ rs) = r .prints ∷ r .shows ∷ stated rs
+
+-- ---- what may be looked at
+abbrev pub none : Left → List ℕ
+none l = []
+
+-- the words of a bucket's slots, Z being 1
+abbrev pub slotsIn : ℕ → Left → List ℕ
+slotsIn n l = drop recordWords (bucketPart 1 (l .tree) (bucket n))
+
+-- how many buckets a request asks for whole and how many for least records, and their numbers
+abbrev pub asks : Waiting → Left → List ℕ
+asks w l =
+    length (listOf (l .turn .desk .card) w .whole)
+    ∷ length (listOf (l .turn .desk .card) w .least)
+    ∷ numbers (listOf (l .turn .desk .card) w)

@@ -1,0 +1,100 @@
+-- A round is refused with the first refusal of its steps, or done. Assumes nothing.
+use Prim.Native.Nat.{ℕ, zero, suc}
+use mathlib.Core.List.{List}
+use mathlib.Core.Path.{_≡_, refl, sym, ap, subst, _∙_}
+use native.Mathlib.Omega.{arith}
+use lib.ListN.{length}
+use borrow.Author.Tests.{ne-eqb}
+use Rattle.path.specs.declared.list.Listed.{Listed as Counts}
+use Rattle.path.specs.BucketList.{BucketList, counts, laid}
+use Rattle.rack.specs.Refusals.{afterwards}
+use Rattle.rack.specs.Copy.{listed}
+use Rattle.rack.proofs.ListedLaws.{listed-laid}
+use Rattle.refusal.specs.Refusal.{firstGiven}
+use Rattle.card.specs.declared.Card.{Card}
+use Rattle.card.specs.declared.Waiting.{Waiting}
+use Rattle.card.specs.declared.Done.{Done}
+use Rattle.card.specs.Answers.{numberOf, refused, orRefused, Answered}
+use Rattle.card.specs.Calls.{withWaiting, listOf, beginTable, begun, Begins}
+use Rattle.card.specs.Finish.{finished}
+use Rattle.card.proofs.AnswerLaws.{is-refused, is-done}
+use Rattle.rounds.specs.Round.{orElse, listPlaces, countsIn, shown, carryRefusal, treeLeft, Carries, Plays, roundRefusal, roundDone, roundTree}
+
+-- ---- the first of two refusals
+pub or-first : (m n : ℕ) → (m ≡ 0 → ⊥) → orElse m n ≡ m
+or-first zero n h = absurd (h refl)
+or-first (suc m) n h = refl
+
+pub or-second : (m n : ℕ) → m ≡ 0 → orElse m n ≡ n
+or-second m n e = ap (λ (x : ℕ). orElse x n) e
+
+after-refused : (m : ℕ) (due before : List ℕ) → (m ≡ 0 → ⊥) → afterwards m due before ≡ before
+after-refused zero due before h = absurd (h refl)
+after-refused (suc m) due before h = refl
+
+module _ (k : Card) (before : ℕ) (waiting : Card) (list : List ℕ) (n : Counts) (l : BucketList) (tree : List ℕ) where
+  abbrev refusal : ℕ
+  refusal = orElse before (carryRefusal waiting list n l tree)
+
+  pub round-refused : (number : ℕ) (d : Done) → refusal ≡ number → (number ≡ 0 → ⊥) → d ≡ refused k number
+      → Carries k before waiting list n l tree tree d
+  round-refused number d e h r =
+      let some : refusal ≡ 0 → ⊥ = λ z. h (sym e ∙ z) in
+      let own : d ≡ refused k refusal = r ∙ ap (refused k) (sym e) in
+      record {
+        call = subst (λ (x : Done). Answered k refusal (finished waiting (shown waiting list n l tree)) x) (sym own) (is-refused k refusal _ some);
+        lent = sym (after-refused refusal (treeLeft waiting list n l tree) tree some);
+      }
+
+  pub round-done : (d : Done) (after : List ℕ) → refusal ≡ 0 → d ≡ finished waiting (shown waiting list n l tree) → numberOf (d .answer) ≡ 0
+      → after ≡ treeLeft waiting list n l tree → Carries k before waiting list n l tree after d
+  round-done d after e r z a =
+      record {
+        call = subst (λ (x : Done). Answered k refusal x d) r (is-done k refusal d e z);
+        lent = a ∙ sym (ap (λ (x : ℕ). afterwards x (treeLeft waiting list n l tree) tree) e);
+      }
+
+  -- what a round with a refusal leaves
+  pub refused-round : (after : List ℕ) (d : Done) → (refusal ≡ 0 → ⊥) → Carries k before waiting list n l tree after d
+      → (d ≡ refused k refusal) × (after ≡ tree)
+  unfolding orRefused
+  refused-round after d h p =
+      (rw (ne-eqb refusal 0 h) at (p .call .whole), p .lent ∙ after-refused refusal (treeLeft waiting list n l tree) tree h)
+
+-- ---- a round of a request that begin was given
+module _ (k : Card) (w : Waiting) (tree : List ℕ) where
+  abbrev begins : ℕ
+  begins = firstGiven (beginTable k w (length listPlaces))
+
+  module _ (list : List ℕ) (b : Done) (after : List ℕ) (d : Done) (p : Begins k w listPlaces list b)
+      (q : Carries k (numberOf (b .answer)) (b .card) list (countsIn (b .answer)) (listed list (countsIn (b .answer) .whole) (countsIn (b .answer) .least)) tree after d) where
+    begin-refuses : (begins ≡ 0 → ⊥) → Plays k w tree after d
+    begin-refuses h =
+        let same : numberOf (b .answer) ≡ begins = p .call .numbered in
+        let some : numberOf (b .answer) ≡ 0 → ⊥ = λ z. h (sym same ∙ z) in
+        let first = or-first (numberOf (b .answer)) (carryRefusal (b .card) list (countsIn (b .answer)) (listed list (countsIn (b .answer) .whole) (countsIn (b .answer) .least)) tree) some in
+        let left = refused-round k _ _ _ _ _ tree after d (λ z. some (sym first ∙ z)) q in
+        subst (λ (t : List ℕ). Plays k w tree t d) (sym (left .1))
+        (round-refused k begins _ _ _ _ tree begins d (or-first begins _ h) h (left .0 ∙ ap (refused k) (first ∙ same)))
+
+    begin-passes : begins ≡ 0 → Plays k w tree after d
+    unfolding orRefused
+    begin-passes e =
+        let own : b ≡ begun k w = rw e at (p .call .whole) in
+        let places : list ≡ laid (listOf k w) listPlaces = rw e at (p .places) in
+        let at-begun = subst (λ (x : Done). Carries k (numberOf (x .answer)) (x .card) list (countsIn (x .answer)) (listed list (countsIn (x .answer) .whole) (countsIn (x .answer) .least)) tree after d) own q in
+        let at-list = subst (λ (x : List ℕ). Carries k 0 (withWaiting k w) x (counts (listOf k w)) (listed x (counts (listOf k w) .whole) (counts (listOf k w) .least)) tree after d) places at-begun in
+        let named = subst (λ (x : BucketList). Carries k 0 (withWaiting k w) (laid (listOf k w) listPlaces) (counts (listOf k w)) x tree after d) (listed-laid (listOf k w) listPlaces) at-list in
+        subst (λ (x : ℕ). Carries k x (withWaiting k w) (laid (listOf k w) listPlaces) (counts (listOf k w)) (listOf k w) tree after d) (sym e) named
+
+    either : (m : ℕ) → begins ≡ m → Plays k w tree after d
+    either zero e = begin-passes e
+    either (suc m) e = begin-refuses (λ z. let n : suc m ≡ 0 = sym e ∙ z in omega arith)
+
+    pub plays : Plays k w tree after d
+    plays = either begins refl
+
+  -- a round comes to what its equations say
+  pub comes-to : (after : List ℕ) (d : Done) → Plays k w tree after d → (d ≡ roundDone k w tree) × (after ≡ roundTree k w tree)
+  unfolding roundRefusal roundDone roundTree
+  comes-to after d p = (p .call .whole, p .lent)

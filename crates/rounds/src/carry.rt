@@ -1,0 +1,47 @@
+// A request that is begun, carried to its end: document 01, "A request, step by step". `card` is the card before its begin.
+ghost use mathlib.Core.Path.{_≡_};
+ghost use Rattle.card.specs.Answers.{numberOf};
+ghost use Rattle.rack.specs.Copy.{listed};
+ghost use Rattle.rounds.specs.Round.{countsIn, Carries};
+use crate::answer;
+use card::Card;
+use card::Done;
+use path::Listed;
+
+// The most words that are fetched: 32 whole buckets of 24 words, and 30 least records.
+const WORDS_MOST: usize = 888;
+
+// Fetched, finished and stored.
+fn carry(card: Card, begun: Card, list: &[u64], n: Listed, tree: &mut [u64]) -> Done
+    ensures { λ d. ⌜ Carries card 0 begun (now (list .entry)) n (listed (now (list .entry)) (n .whole) (n .least)) (now (tree .entry)) (now (tree .exit)) d ⌝ }
+{
+    let mut words = [0u64; WORDS_MOST];
+    let h = begun.sizes.h;
+    let z = begun.sizes.z;
+    let fetched = rack::fetch(h, z, tree, list, n.whole, n.least, &mut words);
+    if !fetched.is_done() {
+        return answer::refuse(card, fetched.number());
+    }
+    let done = begun.finish(&mut words);
+    let given = done.answer;
+    let said = answer::number(given);
+    if said != 0 {
+        return answer::refuse(card, said);
+    }
+    rack::store(h, z, tree, list, n.whole, n.least, &words);
+    done
+}
+
+// What begin answered decides whether there is anything to carry.
+pub(crate) fn go_on(card: Card, begun: Done, list: &[u64], tree: &mut [u64]) -> Done
+    ensures { λ d. ⌜ Carries card (numberOf (begun .answer)) (begun .card) (now (list .entry)) (countsIn (begun .answer)) (listed (now (list .entry)) (countsIn (begun .answer) .whole) (countsIn (begun .answer) .least)) (now (tree .entry)) (now (tree .exit)) d ⌝ }
+{
+    let given = begun.answer;
+    let number = answer::number(given);
+    if number != 0 {
+        return answer::refuse(card, number);
+    }
+    let n = answer::counts(given);
+    let waiting = begun.card;
+    carry(card, waiting, list, n, tree)
+}
