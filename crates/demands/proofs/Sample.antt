@@ -1,5 +1,6 @@
--- The run of document 01's desk, worked out by the very steps of demand 2: "Input, then whole output". An Insert and a Delete are
--- answered, an Overflow is passed over, and a Delete of what is gone is Absent. Assumes nothing.
+-- Two runs worked out by the very steps of demand 2. The first is document 01's, "Input, then whole output": an Insert and a Delete are
+-- answered, an Overflow is passed over, and a Delete of what is gone is Absent. In the second two keys are equal, a request is
+-- withdrawn, and refusals come in between. Assumes nothing.
 use Prim.Native.Nat.{ℕ, _≤_}
 use mathlib.Core.List.{List, [], _∷_, map, flatMap}
 use mathlib.Core.Path.{_≡_, refl}
@@ -37,7 +38,7 @@ use Rattle.card.specs.Tables.{insertRows, extractRows, deleteRows, requestRows,
 use Rattle.path.specs.Sizes.{sizesOf}
 use Rattle.record.specs.declared.Leaf.{Leaf}
 use Rattle.card.specs.Answers.{numberOf, valuesOf}
-use Rattle.demands.specs.World.{freshWorld, insert, extract, delete, Call, begin, finish, findMin, Outcome, step, outcomes}
+use Rattle.demands.specs.World.{freshWorld, insert, extract, delete, Call, begin, finish, withdraw, findMin, Outcome, step, outcomes}
 
 -- ---- the paper's lines as calls, with lists and words that are more than long enough
 abbrev leaf : ℕ → Leaf
@@ -64,11 +65,22 @@ lines =
     ∷ asks extract
     ∷ []
 
+-- two events with one key; an ExtractMin begun and withdrawn, a finish when none waits, and a begin when one does
+abbrev others : List Call
+others =
+    inserts 5 50 0 1 2 (omega arith) ∷ ends
+    ∷ inserts 5 51 3 1 2 (omega arith) ∷ ends
+    ∷ asks extract ∷ withdraw ∷ ends
+    ∷ asks extract ∷ asks extract ∷ ends
+    ∷ findMin
+    ∷ []
+
 -- the number of an answer, and its values
 abbrev shows : Outcome → List ℕ
 shows o = numberOf (o .answer) ∷ valuesOf (o .answer)
 
-sample : map shows (outcomes (freshWorld (sizesOf 2 1 1 16)) lines) ≡
+sample :
+    (map shows (outcomes (freshWorld (sizesOf 2 1 1 16)) lines) ≡
     (0 ∷ 4 ∷ 2 ∷ 0 ∷ 0 ∷ 0 ∷ 0 ∷ []) ∷ (0 ∷ 0 ∷ 0 ∷ 0 ∷ 0 ∷ 0 ∷ 72 ∷ [])
     ∷ (0 ∷ 4 ∷ 2 ∷ 0 ∷ 0 ∷ 0 ∷ 0 ∷ []) ∷ (0 ∷ 0 ∷ 0 ∷ 0 ∷ 1 ∷ 0 ∷ 72 ∷ [])
     ∷ (10 ∷ 0 ∷ 0 ∷ 0 ∷ 0 ∷ 0 ∷ 0 ∷ [])
@@ -77,7 +89,14 @@ sample : map shows (outcomes (freshWorld (sizesOf 2 1 1 16)) lines) ≡
     ∷ (0 ∷ 2 ∷ 2 ∷ 0 ∷ 0 ∷ 0 ∷ 0 ∷ []) ∷ (0 ∷ 0 ∷ 0 ∷ 0 ∷ 0 ∷ 1 ∷ 40 ∷ [])
     ∷ (0 ∷ 2 ∷ 2 ∷ 0 ∷ 0 ∷ 0 ∷ 0 ∷ []) ∷ (0 ∷ 0 ∷ 0 ∷ 0 ∷ 0 ∷ 0 ∷ 40 ∷ [])
     ∷ (8 ∷ 0 ∷ 0 ∷ 0 ∷ 0 ∷ 0 ∷ 0 ∷ [])
-    ∷ []
+    ∷ [])
+    × (map shows (outcomes (freshWorld (sizesOf 2 1 2 16)) others) ≡
+    (0 ∷ 4 ∷ 2 ∷ 0 ∷ 0 ∷ 0 ∷ 0 ∷ []) ∷ (0 ∷ 0 ∷ 0 ∷ 0 ∷ 0 ∷ 0 ∷ 72 ∷ [])
+    ∷ (0 ∷ 4 ∷ 2 ∷ 0 ∷ 0 ∷ 0 ∷ 0 ∷ []) ∷ (0 ∷ 0 ∷ 0 ∷ 3 ∷ 1 ∷ 0 ∷ 72 ∷ [])
+    ∷ (0 ∷ 2 ∷ 2 ∷ 0 ∷ 0 ∷ 0 ∷ 0 ∷ []) ∷ (0 ∷ 0 ∷ 0 ∷ 0 ∷ 0 ∷ 0 ∷ 0 ∷ []) ∷ (3 ∷ 0 ∷ 0 ∷ 0 ∷ 0 ∷ 0 ∷ 0 ∷ [])
+    ∷ (0 ∷ 2 ∷ 2 ∷ 0 ∷ 0 ∷ 0 ∷ 0 ∷ []) ∷ (2 ∷ 0 ∷ 0 ∷ 0 ∷ 0 ∷ 0 ∷ 0 ∷ []) ∷ (0 ∷ 5 ∷ 50 ∷ 0 ∷ 0 ∷ 0 ∷ 40 ∷ [])
+    ∷ (0 ∷ 5 ∷ 51 ∷ 3 ∷ 1 ∷ 0 ∷ 0 ∷ [])
+    ∷ [])
 unfolding every reals bears stampTwice noLater smallerBy smallestBy same isDummy known isProper mayStand records
     wordsOf pairList pathList sum wordsMoved pathBucket holds siblingOf upFrom path between treeIn inRange firstGiven
     strangeSlot usedPast stampShared rootRecords greaterThanSome rootFull oddLeast badParts seek fits movedTo pull
@@ -86,4 +105,4 @@ unfolding every reals bears stampTwice noLater smallerBy smallestBy same isDummy
     pairDamaged removal insertion removalDamaged insertionDamaged anyOutside stored orRefused badCard listOf
     beginTable minTable withdrawTable leftBy damagedBy entryTable finishedBy insertRows extractRows deleteRows
     requestRows waits step outcomes flatMap
-sample = refl
+sample = (refl, refl)
