@@ -7,7 +7,6 @@ ghost use lib.ListN.{length};
 use card::Card;
 use libc::STDIN_FILENO;
 use libc::STDOUT_FILENO;
-use path::Sizes;
 use turns::Desk;
 
 // The words that are lent for a tree.
@@ -57,15 +56,10 @@ fn feed(desk: Desk, tree: &mut [u64], buffer: &mut [u8], before: usize, chunk: &
     }
 }
 
-// Before any accepted `size` the card means nothing.
+// Before any accepted `size` the card means nothing: it is the one that a refused start hands back, as in the theorem `paper`.
 fn shut() -> Desk {
-    let sizes = Sizes {
-        h: 0,
-        z: 0,
-        r: 0,
-        t: 0,
-    };
-    let card = Card::fresh(sizes);
+    let refused = Card::start(0, 0, 0, 0);
+    let card = refused.card;
     Desk {
         sized: false,
         card: card,
