@@ -203,9 +203,3 @@ pair-words s first second lower upper high e f =
     let n : wordsMoved (s .z) (pairList (s .h) first second) ≡ 2 * s .h * (2 * bucketWords (s .z)) + 2 * (s .h - 1) * recordWords =
     moved-by-counts (s .z) (pairList (s .h) first second) ∙ ap (moved (s .z)) (pair-counts (s .h) first second high) in
     omega arith
-
--- and so are those moved for it
-pub stores-few : (s : Sizes) (stores : ℕ) → Cut s → stores ≡ s .h * (2 * bucketWords (s .z)) → stores ≤ 768
-stores-few s stores cut e =
-    let m : s .h * (2 * bucketWords (s .z)) ≤ s .h * 48 = mul-le-mul-left (s .h) (omega (arith, cut .width)) in
-    omega (arith, cut .height)

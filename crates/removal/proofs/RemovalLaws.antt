@@ -3,7 +3,6 @@ use Prim.Native.Nat.{ℕ, suc, _+_, _*_, _-_, _≤_}
 use mathlib.Core.Bool.{Bool, true, false, cond, or-true}
 use mathlib.Core.List.{List}
 use mathlib.Core.Path.{_≡_, refl, sym, ap, _∙_}
-use native.Mathlib.Nat.{mul-le-mul-left}
 use native.Mathlib.Omega.{arith}
 use lib.ListN.{length, take}
 use lib.Seq.{length-take-le}
@@ -26,7 +25,7 @@ use Rattle.work.specs.declared.removal.Removed.{Removed}
 use Rattle.work.specs.Work.{PathShown, PathRemoved}
 use Rattle.settle.specs.declared.Settled.{Settled}
 use Rattle.settle.specs.Left.{Left, pathWay, pathSiblings, removal, removalDamaged}
-use Rattle.settle.specs.Room.{Cut, RemovalRoom}
+use Rattle.settle.specs.Room.{RemovalRoom}
 use Rattle.settle.specs.Settled.{settled, unsettled, Prepares}
 use Rattle.settle.proofs.PreparedLaws.{not-prepared, prepared}
 
@@ -115,9 +114,3 @@ path-words s q stores e =
     let n : wordsMoved (s .z) (pathList (s .h) q) ≡ s .h * (2 * bucketWords (s .z)) + s .h * recordWords =
     moved-by-counts (s .z) (pathList (s .h) q) ∙ ap (moved (s .z)) (path-counts (s .h) q) in
     omega arith
-
--- a path's words are few
-pub stores-few : (s : Sizes) (stores : ℕ) → Cut s → stores ≡ s .h * (2 * bucketWords (s .z)) → stores ≤ 768
-stores-few s stores cut e =
-    let m : s .h * (2 * bucketWords (s .z)) ≤ s .h * 48 = mul-le-mul-left (s .h) (omega (arith, cut .width)) in
-    omega (arith, cut .height)

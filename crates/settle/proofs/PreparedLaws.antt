@@ -1,15 +1,19 @@
 -- A finish that is Damaged, one that is worked out, and one that is written. Assumes nothing.
-use Prim.Native.Nat.{ℕ, _+_, _*_}
+use Prim.Native.Nat.{ℕ, _+_, _*_, _≤_}
 use mathlib.Core.Bool.{Bool, true, false, true≢false}
 use mathlib.Core.List.{List, _++_}
 use mathlib.Core.Path.{_≡_, refl, sym, ap, _∙_}
 use mathlib.Core.Logic.{inl, inr}
 use mathlib.Mathlib.Data.Bool.Basic.{dichotomy}
+use native.Mathlib.Nat.{mul-le-mul-left}
+use native.Mathlib.Omega.{arith}
 use lib.ListN.{length, drop}
 use Rattle.record.specs.declared.Record.{Record}
-use Rattle.path.specs.Layout.{recordWords}
+use Rattle.path.specs.declared.sizes.Sizes.{Sizes}
+use Rattle.path.specs.Layout.{recordWords, bucketWords}
 use Rattle.mend.specs.Mended.{pathWords}
 use Rattle.settle.specs.declared.Settled.{Settled}
+use Rattle.settle.specs.Room.{Cut}
 use Rattle.settle.specs.Left.{Left, wordsLeft}
 use Rattle.settle.specs.Settled.{settled, unsettled, Prepares, Settles}
 
@@ -76,3 +80,9 @@ module _ (root : List Record) (least : Record) (c : ℕ) (d : Bool) (l : Left) (
 
   pub settles-done : out .damaged ≡ false → (d ≡ false) × ((out ≡ settled l moved) × (after ≡ wordsLeft l before))
   settles-done e = let f = sym verdict ∙ e in (f, (rw f at (p .whole), rw f at (p .words)))
+
+-- a path's stores are few
+pub stores-few : (s : Sizes) (stores : ℕ) → Cut s → stores ≡ s .h * (2 * bucketWords (s .z)) → stores ≤ 768
+stores-few s stores cut e =
+    let m : s .h * (2 * bucketWords (s .z)) ≤ s .h * 48 = mul-le-mul-left (s .h) (omega (arith, cut .width)) in
+    omega (arith, cut .height)

@@ -4,8 +4,8 @@ use Prim.Native.Nat.{_*_, _≤_}
 use mathlib.Core.Path.{_≡_, _∙_}
 use lib.ListN.{length}
 use Rattle.path.specs.Layout.{bucketWords}
-use Rattle.settle.proofs.PreparedLaws.{not-settled, is-settled, counted-so-far}
-use Rattle.insertion.proofs.InsertionLaws.{both-given, first-stores, second-stores, both-stored, pair-words, path-few, stores-few}
+use Rattle.settle.proofs.PreparedLaws.{not-settled, is-settled, counted-so-far, stores-few}
+use Rattle.insertion.proofs.InsertionLaws.{both-given, first-stores, second-stores, both-stored, pair-words, path-few}
 use Rattle.insertion.proofs.write_insertion.Statement.{statement}
 use Rattle.insertion.proofs.write_insertion.Tie as tie
 

@@ -4,8 +4,8 @@ use Prim.Native.Nat.{_*_}
 use mathlib.Core.Path.{_≡_, _∙_}
 use lib.ListN.{length}
 use Rattle.path.specs.Layout.{bucketWords}
-use Rattle.settle.proofs.PreparedLaws.{not-settled, is-settled, counted-so-far}
-use Rattle.removal.proofs.RemovalLaws.{store-room, path-words, stores-few}
+use Rattle.settle.proofs.PreparedLaws.{not-settled, is-settled, counted-so-far, stores-few}
+use Rattle.removal.proofs.RemovalLaws.{store-room, path-words}
 use Rattle.removal.proofs.write_removal.Statement.{statement}
 use Rattle.removal.proofs.write_removal.Tie as tie
 
