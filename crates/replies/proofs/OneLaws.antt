@@ -3,7 +3,7 @@ use Prim.Native.Nat.{ℕ}
 use mathlib.Core.List.{List}
 use mathlib.Core.Path.{_≡_, sym, _∙_}
 use Rattle.card.specs.declared.Card.{Card}
-use Rattle.card.specs.declared.Waiting.{Waiting}
+use Rattle.request.specs.declared.Waiting.{Waiting}
 use Rattle.card.specs.declared.Done.{Done}
 use Rattle.decimal.specs.Promises.{Laid}
 use Rattle.lines.specs.declared.Line.{Line}
