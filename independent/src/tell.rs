@@ -3,6 +3,7 @@
 
 use std::io::{BufRead, Read, Write};
 
+use crate::cardwords::LEAST;
 use crate::desk::Desk;
 use crate::frame::{read_frame, write_reply, Frame};
 use crate::probe::answer;
@@ -60,7 +61,9 @@ pub fn tell_frames(asked: &mut dyn Read, others: &mut dyn Read, output: &mut dyn
         if own != other {
             let name = CALLS[frame.op as usize - 1].1;
             let asked = joined(&frame.arguments);
+            let head = joined(&frame.card[..LEAST]);
             let _ = writeln!(output, "frame {count}: {name}, arguments {asked}");
+            let _ = writeln!(output, "on a card that begins {head}");
             tell_reply("the independent program", &own, output);
             tell_reply("the other", &other, output);
             tell_word(&frame, &own, &other, output);
