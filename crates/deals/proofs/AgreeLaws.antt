@@ -12,7 +12,6 @@ use Rattle.path.specs.declared.sizes.Sizes.{Sizes}
 use Rattle.path.specs.Sizes.{leavesOf}
 use Rattle.path.specs.declared.list.Listed.{Listed as Counts}
 use Rattle.path.specs.BucketList.{pairList, pathList, fetchedFor}
-use Rattle.card.specs.declared.Card.{Card}
 use Rattle.card.specs.declared.Waiting.{Waiting}
 use Rattle.card.specs.declared.Waiting.the-variants.{Nothing, Insert, Extract, Delete}
 use Rattle.card.specs.Calls.{listOf, countsFor}
@@ -24,7 +23,7 @@ use Rattle.deals.specs.Sequences.{leaf, labelled, wanted, unlabelled, we
 use Rattle.deals.specs.Dealing.{refIn, gone, leaving}
 use Rattle.deals.proofs.LeavingLaws.{All, all-append, all-in, There, out-all, has-one, least-in, stamps}
 use Rattle.deals.proofs.DressLaws.{ref, Bare, dress, dressed, has-dress, insert-dress, delete-dress, dressed-least, extract-dress}
-use Rattle.deals.proofs.RoundLaws.{Idle, idle-count, idle-least, idle-known, idle-begin, look-card, look-well, look-seen, look-some, look-passes, look-idle, doneBy, Round, round-passes}
+use Rattle.deals.proofs.RoundLaws.{Idle, idle-count, idle-least, idle-known, idle-begin, step-sizes, look-well, look-seen, look-some, look-passes, look-idle, doneBy, Round, round-passes}
 use Rattle.deals.proofs.RequestLaws.{insert-again, extract-again, delete-again, spoken, spoken-well}
 use Rattle.deals.proofs.TwinLaws.{OneKind, both-insert, both-extract, both-delete, Twin, ended, looked, taken}
 use Rattle.deals.proofs.ThereLaws.{extract-live, there-first, there-second, length-after}
@@ -78,8 +77,8 @@ module _ (s : Sizes) (f : ℕ → ℕ) (below : (stamp : ℕ) → f stamp < leav
   pair-look {u} {v} {q} {p} x n =
       record {
         second = look-idle v (dressed f p) (x .second) n;
-        sizes-first = ap (λ (k : Card). k .sizes) (look-card u) ∙ x .sizes-first;
-        sizes-second = ap (λ (k : Card). k .sizes) (look-card v) ∙ x .sizes-second;
+        sizes-first = step-sizes u findMin ∙ x .sizes-first;
+        sizes-second = step-sizes v findMin ∙ x .sizes-second;
         same-taken = x .same-taken;
         same-many = x .same-many;
         bare = x .bare;

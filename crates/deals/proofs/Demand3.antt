@@ -2,7 +2,7 @@
 use Prim.Native.Nat.{ℕ, suc}
 use mathlib.Core.Bool.{true}
 use mathlib.Core.List.{List, [], _∷_, map}
-use mathlib.Core.Path.{_≡_, refl, sym, ap, _∙_}
+use mathlib.Core.Path.{_≡_, refl, sym, _∙_}
 use native.Mathlib.Omega.{arith}
 use lib.ListN.{length, take}
 use borrow.Author.Tests.{eq-eqb, ne-eqb}
@@ -18,6 +18,7 @@ use Rattle.deals.specs.Dealing.{deal, dealt}
 use Rattle.deals.specs.Demand3.{Demand3, Shows, NeverOverflows, SameTraces}
 use Rattle.deals.proofs.RoundLaws.{Idle, passes-well}
 use Rattle.deals.proofs.TwinLaws.{Twin, twin}
+use Rattle.deals.proofs.ThereLaws.{length-given}
 use Rattle.deals.proofs.DealLaws.{deal-is, deal-once, deal-below}
 use Rattle.deals.proofs.AgreeLaws.{Agree, over, overflows, goes-on, agree}
 
@@ -83,11 +84,6 @@ kinds-given f t (begin delete places ∷ cs) = rw (kinds-given f (suc t) cs)
 kinds-given f t (finish words ∷ cs) = rw (kinds-given f t cs)
 kinds-given f t (withdraw ∷ cs) = rw (kinds-given f t cs)
 kinds-given f t (findMin ∷ cs) = rw (kinds-given f t cs)
-
-length-given : (f : ℕ → ℕ) (t : ℕ) (cs : List Call) → length (labelled f t cs) ≡ length cs
-unfolding labelled
-length-given f t [] = refl
-length-given f t (c ∷ cs) = ap suc (length-given f _ cs)
 
 module _ (s : Sizes) (ok : inRange s ≡ true) where
   shows-too : (cs ds : List Call) → map kindOf ds ≡ map kindOf cs → Valid s emptyQueue ds → NeverOverflows s ds → (seen : List Seen)

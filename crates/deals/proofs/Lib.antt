@@ -8,4 +8,5 @@ pub mod ThereLaws
 pub mod DealLaws
 pub mod AgreeLaws
 pub mod Demand3
+pub mod RoomLaws
 pub mod Sample

@@ -23,6 +23,7 @@ use Rattle.judge.specs.BadParts.{stampOf}
 use Rattle.settle.specs.Left.{Left}
 use Rattle.rack.proofs.ListedLaws.{listed-laid}
 use Rattle.card.specs.declared.Card.{Card}
+use Rattle.card.specs.declared.Done.{Done}
 use Rattle.card.specs.declared.Waiting.{Waiting}
 use Rattle.card.specs.declared.Waiting.the-variants.{Nothing, Insert, Extract, Delete}
 use Rattle.card.specs.declared.Answer.{Answer}
@@ -31,11 +32,11 @@ use Rattle.card.specs.Answers.{orRefused, numberOf}
 use Rattle.card.specs.Tables.{requestTable, waits}
 use Rattle.card.specs.BadCard.{badCard}
 use Rattle.card.specs.Calls.{listOf, countsFor, beginTable, minTable, withWaiting}
-use Rattle.card.specs.Finish.{leftBy, finishedBy, wordsNeeded}
+use Rattle.card.specs.Finish.{leftBy, finishedBy, finished, wordsNeeded}
 use Rattle.card.proofs.BeginLaws.{accepted, counts-for, request-refused, room-enough}
 use Rattle.served.proofs.CallLaws.{ready-card}
 use Rattle.demands.specs.Queue.{Event, Queue, Request, leastOf, next, reply}
-use Rattle.demands.specs.World.{World, Asked, insert, extract, delete, Call, begin, finish, findMin, Outcome, held, finishNumber, shown, step}
+use Rattle.demands.specs.World.{World, Asked, insert, extract, delete, Call, begin, finish, withdraw, findMin, Outcome, held, finishNumber, shown, step}
 use Rattle.demands.specs.Says.{eventOf, asks, says}
 use Rattle.demands.proofs.AnswerLaws.{least-told}
 use Rattle.demands.proofs.StepLaws.{Holds}
@@ -57,6 +58,28 @@ well-numbered (Refused n) e = absurd (true≢false (sym e))
 
 pub passes-well : (u : World) (c : Call) → well (step u c .answer) ≡ true → number (step u c) ≡ 0
 passes-well u c e = well-numbered (step u c .answer) e
+
+-- ---- no call changes the sizes
+answered-sizes : (k : Card) (n : ℕ) (d : Done) → d .card .sizes ≡ k .sizes → orRefused k n d .card .sizes ≡ k .sizes
+unfolding orRefused
+answered-sizes k n d e = elim (dichotomy (eqb n 0)) [
+  | inr t ↦ rw t e
+  | inl f ↦ rw f
+]
+
+finished-sizes : (k : Card) (w : Waiting) (l : Left) → finishedBy k w l .card .sizes ≡ k .sizes
+unfolding finishedBy
+finished-sizes k Nothing l = refl
+finished-sizes k (Insert key value label first second) l = refl
+finished-sizes k Extract l = refl
+finished-sizes k (Delete label stamp) l = refl
+
+pub step-sizes : (u : World) (c : Call) → step u c .world .card .sizes ≡ u .card .sizes
+unfolding step
+step-sizes u (begin asked places) = answered-sizes (u .card) _ _ refl
+step-sizes u (finish words) = answered-sizes (u .card) _ (finished (u .card) (shown u words)) (finished-sizes (u .card) (u .card .waiting) (leftBy (u .card) (u .card .waiting) (shown u words)))
+step-sizes u withdraw = answered-sizes (u .card) _ _ refl
+step-sizes u findMin = answered-sizes (u .card) _ _ refl
 
 -- ---- a begin
 module _ (u : World) {w : Waiting} (asked : Asked w) (places : List ℕ) where
@@ -92,26 +115,25 @@ module _ (u : World) {w : Waiting} (asked : Asked w) (places : List ℕ) where
     begin-well = rw passes
 
 -- ---- a finish
-finished-kept : (k : Card) (w : Waiting) (l : Left) → numberOf (finishedBy k w l .answer) ≡ 0
-    → (finishedBy k w l .card .waiting ≡ Nothing) × (finishedBy k w l .card .sizes ≡ k .sizes)
+finished-idle : (k : Card) (w : Waiting) (l : Left) → numberOf (finishedBy k w l .answer) ≡ 0 → finishedBy k w l .card .waiting ≡ Nothing
 unfolding finishedBy
-finished-kept k Nothing l e = absurd (omega arith)
-finished-kept k (Insert key value label first second) l e = (refl, refl)
-finished-kept k Extract l e = (refl, refl)
-finished-kept k (Delete label stamp) l e = (refl, refl)
+finished-idle k Nothing l e = absurd (omega arith)
+finished-idle k (Insert key value label first second) l e = refl
+finished-idle k Extract l e = refl
+finished-idle k (Delete label stamp) l e = refl
 
 module _ (v : World) (words : List ℕ) (e : number (step v (finish words)) ≡ 0) where
   finish-seen : seen v (finish words) ≡ stores (held v)
   unfolding seen
   finish-seen = rw e
 
-  finish-kept : (step v (finish words) .world .card .waiting ≡ Nothing) × (step v (finish words) .world .card .sizes ≡ v .card .sizes)
+  finish-idle : step v (finish words) .world .card .waiting ≡ Nothing
   unfolding step orRefused
-  finish-kept =
+  finish-idle =
       let m = finishNumber v (shown v words) in
       elim (dichotomy (eqb m 0)) [
         | inl f ↦ absurd (eqb-false m 0 f (rw f at e))
-        | inr t ↦ rw t (finished-kept (v .card) (v .card .waiting) (leftBy (v .card) (v .card .waiting) (shown v words)) (rw t at e))
+        | inr t ↦ rw t (finished-idle (v .card) (v .card .waiting) (leftBy (v .card) (v .card .waiting) (shown v words)) (rw t at e))
       ]
 
 -- ---- what holds between two requests
@@ -171,7 +193,7 @@ module _ (u : World) where
     | inr t ↦ rw (t, eqb-true m 0 t)
   ]
 
-  pub look-card : step u findMin .world .card ≡ u .card
+  look-card : step u findMin .world .card ≡ u .card
   unfolding step orRefused
   look-card = elim (dichotomy (eqb m 0)) [
     | inl f ↦ rw f
@@ -246,7 +268,6 @@ module _ (u : World) (q : Queue) {w : Waiting} (asked : Asked w) (places words :
     round f =
         let answered = passed (plays begun q begun-holds (finish words)) f in
         let is : asks (begun .card .waiting) ≡ asks w = ap asks now-waits in
-        let kept = finish-kept begun words f in
         record {
           before = i;
           request = accepted (u .card) w (length places) (sym (begin-number u asked places) ∙ b) .request;
@@ -257,9 +278,9 @@ module _ (u : World) (q : Queue) {w : Waiting} (asked : Asked w) (places words :
           said = answered .0 .same ∙ ap (reply q) is;
           after = record {
             holds = subst (λ (r : Request). Holds (done .world) (next q r)) is (answered .1);
-            waiting = kept .0;
+            waiting = finish-idle begun words f;
           };
-          sizes = kept .1 ∙ ap (λ (k : Card). k .sizes) (begin-card u asked places b);
+          sizes = step-sizes begun (finish words) ∙ step-sizes u (begin asked places);
         }
 
     -- with words enough it is finished

@@ -5,7 +5,7 @@ use Prim.Native.Nat.{ℕ, _<_, _≤_}
 use mathlib.Core.List.{List, [], _∷_, map, flatMap}
 use mathlib.Core.Path.{_≡_, refl}
 use native.Mathlib.Omega.{arith}
-use lib.ListN.{replicate}
+use lib.ListN.{replicate, getD}
 use Rattle.record.specs.Many.{every, reals, bears, stampTwice}
 use Rattle.record.specs.Order.{noLater, smallerBy, smallestBy}
 use Rattle.record.specs.Standing.{dummyKey, same, isDummy, known, isProper, mayStand}
@@ -29,13 +29,13 @@ use Rattle.settle.specs.Left.{removal, insertion, removalDamaged, insertionDama
 use Rattle.rack.specs.Answers.{anyOutside}
 use Rattle.rack.specs.Copy.{stored}
 use Rattle.card.specs.declared.Waiting.{Waiting}
-use Rattle.card.specs.Answers.{orRefused}
+use Rattle.card.specs.Answers.{orRefused, valuesOf}
 use Rattle.card.specs.BadCard.{badCard}
 use Rattle.card.specs.Calls.{listOf, countsFor, beginTable, minTable}
 use Rattle.card.specs.Finish.{leftBy, damagedBy, entryTable, finishedBy}
 use Rattle.card.specs.Tables.{insertRows, extractRows, deleteRows, requestRows, waits}
 use Rattle.demands.specs.Queue.{Queue, leastOf, has, takenOut, next}
-use Rattle.demands.specs.World.{freshWorld, Asked, insert, extract, delete, Call, begin, finish, findMin, step}
+use Rattle.demands.specs.World.{freshWorld, Asked, insert, extract, delete, Call, begin, finish, findMin, Outcome, step, outcomes}
 use Rattle.demands.specs.Says.{asks as wants}
 use Rattle.deals.specs.Trace.{Seen, seen, trace, untilOverflow}
 use Rattle.deals.specs.Sequences.{leaf, labelled, labels, clean, unlabelled, Sound, Fair, Valid, none, look, request}
@@ -143,9 +143,27 @@ fourShows =
     ∷ asked (2 ∷ 4 ∷ []) (3 ∷ 5 ∷ []) ∷ back (2 ∷ 4 ∷ [])
     ∷ []
 
+-- ---- "Absent .. stores its buckets like any other"
+-- A Delete that finds its event, and the same Delete again: the rack sees the same of both.
+abbrev twice : List Call
+twice = inserts 7 70 0 1 2 (omega arith) ∷ ends ∷ deletes 0 0 ∷ ends ∷ deletes 0 0 ∷ ends ∷ []
+
+abbrev twiceShows : List Lists
+twiceShows =
+    asked near (4 ∷ 7 ∷ []) ∷ back near
+    ∷ asked (2 ∷ 4 ∷ []) (3 ∷ 5 ∷ []) ∷ back (2 ∷ 4 ∷ [])
+    ∷ asked (2 ∷ 4 ∷ []) (3 ∷ 5 ∷ []) ∷ back (2 ∷ 4 ∷ [])
+    ∷ []
+
+-- whether an answer is that of a Delete that found
+abbrev foundOf : Outcome → ℕ
+foundOf o = getD (valuesOf (o .answer)) 4 0
+
 worked :
     Worked (sizesOf 2 1 2 16) one two (3 ∷ 0 ∷ []) bothShow bothShow 9
     × Worked (sizesOf 2 1 1 16) three four (0 ∷ 0 ∷ 3 ∷ []) threeShows fourShows 4
+    × (map lists (trace (freshWorld (sizesOf 2 1 2 16)) twice) ≡ twiceShows)
+    × (map foundOf (outcomes (freshWorld (sizesOf 2 1 2 16)) twice) ≡ 0 ∷ 0 ∷ 0 ∷ 1 ∷ 0 ∷ 0 ∷ [])
 unfolding every reals bears stampTwice noLater smallerBy smallestBy same isDummy known isProper mayStand records
     wordsOf pairList pathList sum wordsMoved pathBucket holds siblingOf upFrom path between treeIn inRange firstGiven
     strangeSlot usedPast stampShared rootRecords greaterThanSome rootFull oddLeast badParts seek fits movedTo pull
@@ -153,7 +171,7 @@ unfolding every reals bears stampTwice noLater smallerBy smallestBy same isDummy
     pathWords pathBuckets rootAfter leastAfter seated sound pathSound siblingsSound kidsShown leastsTrue pathDamaged
     pairDamaged removal insertion removalDamaged insertionDamaged anyOutside stored orRefused badCard listOf
     beginTable minTable countsFor leftBy damagedBy entryTable finishedBy insertRows extractRows deleteRows
-    requestRows waits step flatMap seen trace untilOverflow deal paired leaving leastOf has takenOut labels labelled clean
+    requestRows waits step outcomes flatMap seen trace untilOverflow deal paired leaving leastOf has takenOut labels labelled clean
 worked =
     let key : (n : ℕ) → n ≤ 7 → n < dummyKey = λ n h. omega arith in (
       record {
@@ -180,4 +198,6 @@ worked =
         shows-second = refl;
         overflow = refl;
       },
+      refl,
+      refl,
     )

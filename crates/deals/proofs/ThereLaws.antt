@@ -18,7 +18,7 @@ use Rattle.demands.specs.Says.{eventOf, asks}
 use Rattle.demands.proofs.SortedLaws.{has-live}
 use Rattle.deals.specs.Sequences.{wanted, unlabelled, labels, labelled, well, Fair}
 use Rattle.deals.proofs.LeavingLaws.{All, There, Feasible, made, stamps, least-some, least-in, out-length}
-use Rattle.deals.proofs.RoundLaws.{idle-least, look-card, doneBy, Round}
+use Rattle.deals.proofs.RoundLaws.{idle-least, step-sizes, doneBy, Round}
 use Rattle.deals.proofs.RequestLaws.{well-found}
 use Rattle.deals.proofs.TwinLaws.{OneKind, both-insert, both-extract, both-delete, Twin, ended, looked, taken}
 
@@ -117,12 +117,17 @@ labels-given f t (finish words ∷ ds) = labels-given f t ds
 labels-given f t (withdraw ∷ ds) = labels-given f t ds
 labels-given f t (looksAt ∷ ds) = labels-given f t ds
 
+pub length-given : (f : ℕ → ℕ) (t : ℕ) (ds : List Call) → length (labelled f t ds) ≡ length ds
+unfolding labelled
+length-given f t [] = refl
+length-given f t (d ∷ ds) = ap suc (length-given f _ ds)
+
 -- the first's labels are below N
 pub twin-below : {s : Sizes} {u : World} {q p : Queue} {cs ds : List Call} → Twin s u q p cs ds → u .card .sizes ≡ s
     → All (λ l. l < leavesOf (s .h)) (labels cs)
 unfolding labels
 twin-below (ended i) e = tt
-twin-below {u = u} (looked i m tw) e = twin-below tw (ap (λ k. k .sizes) (look-card u) ∙ e)
+twin-below {u = u} (looked i m tw) e = twin-below tw (step-sizes u looksAt ∙ e)
 twin-below {u = u} (taken (both-insert {key} {value} {label = label} {first = first} {second = second}) r f fair tw) e = (
   subst (λ (s : Sizes). label .0 < leavesOf (s .h)) e (insertable (u .card) key value label first second (r .request) .label),
   twin-below tw (r .sizes ∙ e),
