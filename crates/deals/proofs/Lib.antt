@@ -6,6 +6,7 @@ pub mod RequestLaws
 pub mod TwinLaws
 pub mod ThereLaws
 pub mod DealLaws
+pub mod MeetLaws
 pub mod AgreeLaws
 pub mod Demand3
 pub mod RoomLaws

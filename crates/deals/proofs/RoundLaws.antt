@@ -42,7 +42,7 @@ use Rattle.demands.proofs.AnswerLaws.{least-told}
 use Rattle.demands.proofs.StepLaws.{Holds}
 use Rattle.demands.proofs.Demand2.{plays, finishes}
 use Rattle.demands.proofs.JobLaws.{passed, waits-now}
-use Rattle.deals.specs.Trace.{noList, stores, number, seen, asks as shows}
+use Rattle.deals.specs.Trace.{noList, storedBack, number, seen, askedFor}
 use Rattle.deals.specs.Sequences.{well}
 
 -- an answer that is well is no refusal
@@ -106,9 +106,9 @@ module _ (u : World) {w : Waiting} (asked : Asked w) (places : List ℕ) where
     unfolding step orRefused
     begin-card = rw passes
 
-    begin-seen : seen u (begin asked places) ≡ shows (listOf (u .card) w)
+    begin-seen : seen u (begin asked places) ≡ askedFor (listOf (u .card) w)
     unfolding seen
-    begin-seen = rw e (ap shows begin-held)
+    begin-seen = rw e (ap askedFor begin-held)
 
     begin-well : well (step u (begin asked places) .answer) ≡ true
     unfolding step orRefused
@@ -123,7 +123,7 @@ finished-idle k Extract l e = refl
 finished-idle k (Delete label stamp) l e = refl
 
 module _ (v : World) (words : List ℕ) (e : number (step v (finish words)) ≡ 0) where
-  finish-seen : seen v (finish words) ≡ stores (held v)
+  finish-seen : seen v (finish words) ≡ storedBack (held v)
   unfolding seen
   finish-seen = rw e
 
@@ -204,7 +204,7 @@ module _ (u : World) where
   unfolding step orRefused
   look-well e = rw (eq-eqb m 0 (sym look-number ∙ e))
 
-  pub look-seen : seen u findMin ≡ shows noList
+  pub look-seen : seen u findMin ≡ askedFor noList
   unfolding seen
   look-seen = refl
 
@@ -250,8 +250,8 @@ module _ (u : World) (q : Queue) {w : Waiting} (asked : Asked w) (places words :
     pub begins : well (step u (begin asked places) .answer) ≡ true
     pub numbered : number done ≡ 0
     -- what the rack sees
-    pub first : seen u (begin asked places) ≡ shows (listOf (u .card) w)
-    pub second : seen begun (finish words) ≡ stores (listOf (u .card) w)
+    pub first : seen u (begin asked places) ≡ askedFor (listOf (u .card) w)
+    pub second : seen begun (finish words) ≡ storedBack (listOf (u .card) w)
     -- what is answered and left
     pub said : says (done .answer) ≡ reply q (asks w)
     pub after : Idle (done .world) (next q (asks w))
@@ -274,7 +274,7 @@ module _ (u : World) (q : Queue) {w : Waiting} (asked : Asked w) (places words :
           begins = begin-well u asked places b;
           numbered = f;
           first = begin-seen u asked places b;
-          second = finish-seen begun words f ∙ ap stores (begin-held u asked places b);
+          second = finish-seen begun words f ∙ ap storedBack (begin-held u asked places b);
           said = answered .0 .same ∙ ap (reply q) is;
           after = record {
             holds = subst (λ (r : Request). Holds (done .world) (next q r)) is (answered .1);

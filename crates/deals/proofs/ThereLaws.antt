@@ -16,7 +16,7 @@ use Rattle.demands.specs.World.{World, Asked, Call, begin, finish, withdraw, fi
 use Rattle.demands.specs.World.{insert as puts, extract as extracts, delete as deletes}
 use Rattle.demands.specs.Says.{eventOf, asks}
 use Rattle.demands.proofs.SortedLaws.{has-live}
-use Rattle.deals.specs.Sequences.{wanted, unlabelled, labels, labelled, well, Fair}
+use Rattle.deals.specs.Sequences.{requests, blanks, unlabelled, labels, labelled, well, Fair}
 use Rattle.deals.proofs.LeavingLaws.{All, There, Feasible, made, stamps, least-some, least-in, out-length}
 use Rattle.deals.proofs.RoundLaws.{idle-least, step-sizes, doneBy, Round}
 use Rattle.deals.proofs.RequestLaws.{well-found}
@@ -54,7 +54,7 @@ there-first both-insert r f = tt
 there-first {u} {q} both-extract r f = (eventOf (u .card .least), idle-least u q (r .before) (extract-live r))
 there-first {u} {asked = asked} {places = places} {words = words} both-delete r f = well-found (doneBy u asked places words .answer) _ f (r .said)
 
-pub twin-first : {s : Sizes} {u : World} {q p : Queue} {cs ds : List Call} → Twin s u q p cs ds → Feasible q (map wanted cs)
+pub twin-first : {s : Sizes} {u : World} {q p : Queue} {cs ds : List Call} → Twin s u q p cs ds → Feasible q (requests cs)
 twin-first (ended i) = tt
 twin-first (looked i n t) = (tt, twin-first t)
 twin-first (taken same r f fair t) = (there-first same r f, (tt, twin-first t))
@@ -80,7 +80,7 @@ length-after {w} {x} same q p h k n =
     next-length q (asks w) h ∙ ap (grown (asks w)) n ∙ same-grown same (length (p .events)) ∙ sym (next-length p (unlabelled (asks x)) k)
 
 pub twin-second : {s : Sizes} {u : World} {q p : Queue} {cs ds : List Call} → Twin s u q p cs ds → length (q .events) ≡ length (p .events)
-    → Feasible p (map (λ d. unlabelled (wanted d)) ds)
+    → Feasible p (blanks ds)
 twin-second (ended i) n = tt
 twin-second (looked i m t) n = (tt, twin-second t n)
 twin-second {q = q} {p = p} (taken same r f fair t) n =
@@ -90,7 +90,7 @@ twin-second {q = q} {p = p} (taken same r f fair t) n =
 
 -- ---- insertions and their labels
 pub twin-stamps : {s : Sizes} {u : World} {q p : Queue} {cs ds : List Call} → Twin s u q p cs ds → (t : ℕ)
-    → stamps (made t (map wanted cs)) ≡ stamps (made t (map (λ d. unlabelled (wanted d)) ds))
+    → stamps (made t (requests cs)) ≡ stamps (made t (blanks ds))
 twin-stamps (ended i) t = refl
 twin-stamps (looked i m tw) t = twin-stamps tw t
 twin-stamps (taken both-insert r f fair tw) t = ap (λ (ns : List ℕ). t ∷ ns) (twin-stamps tw (suc t))
@@ -98,7 +98,7 @@ twin-stamps (taken both-extract r f fair tw) t = twin-stamps tw (suc t)
 twin-stamps (taken both-delete r f fair tw) t = twin-stamps tw (suc t)
 
 pub twin-labels : {s : Sizes} {u : World} {q p : Queue} {cs ds : List Call} → Twin s u q p cs ds → (t : ℕ)
-    → labels cs ≡ map (λ r. r .label) (made t (map wanted cs))
+    → labels cs ≡ map (λ r. r .label) (made t (requests cs))
 unfolding labels
 twin-labels (ended i) t = refl
 twin-labels (looked i m tw) t = twin-labels tw t
@@ -107,7 +107,7 @@ twin-labels (taken both-extract r f fair tw) t = twin-labels tw (suc t)
 twin-labels (taken both-delete r f fair tw) t = twin-labels tw (suc t)
 
 -- the labels that f gives
-pub labels-given : (f : ℕ → ℕ) (t : ℕ) (ds : List Call) → labels (labelled f t ds) ≡ map f (stamps (made t (map (λ d. unlabelled (wanted d)) ds)))
+pub labels-given : (f : ℕ → ℕ) (t : ℕ) (ds : List Call) → labels (labelled f t ds) ≡ map f (stamps (made t (blanks ds)))
 unfolding labels labelled
 labels-given f t [] = refl
 labels-given f t (begin (puts word) places ∷ ds) = ap (λ (ns : List ℕ). f t ∷ ns) (labels-given f (suc t) ds)

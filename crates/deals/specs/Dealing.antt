@@ -7,7 +7,7 @@ use mathlib.Core.Option.{Option, none, some}
 use lib.Dec.{eqb}
 use Rattle.demands.specs.Queue.{Reference, Event, Queue, Request, insert, findMin, extractMin, delete, nothing, emptyQueue, leastOf, next}
 use Rattle.demands.specs.World.{Call}
-use Rattle.deals.specs.Sequences.{wanted, unlabelled, labelled}
+use Rattle.deals.specs.Sequences.{requests, blanks, labelled}
 
 -- the event that a request takes out
 abbrev pub refIn : Option Event → List Reference
@@ -31,10 +31,10 @@ leaving q (r ∷ rs) = gone q r ++ leaving (next q r) rs
 -- the labels of the first sequence and the stamps of the second, as they leave; a stamp is all that the second has to tell its
 -- events by, for its labels are yet to be dealt
 abbrev pub labelsLeaving : List Call → List ℕ
-labelsLeaving cs = map (λ r. r .label) (leaving emptyQueue (map wanted cs))
+labelsLeaving cs = map (λ r. r .label) (leaving emptyQueue (requests cs))
 
 abbrev pub stampsLeaving : List Call → List ℕ
-stampsLeaving ds = map (λ r. r .stamp) (leaving emptyQueue (map (λ d. unlabelled (wanted d)) ds))
+stampsLeaving ds = map (λ r. r .stamp) (leaving emptyQueue (blanks ds))
 
 -- the k-th value for the k-th name, and 0 for a number that is no name
 unfoldable pub paired : List ℕ → List ℕ → ℕ → ℕ

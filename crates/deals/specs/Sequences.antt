@@ -1,7 +1,7 @@
 -- Sequences of calls: their kinds, their labels, and what demand 3 asks of the first and of the second. Assumes nothing.
 use Prim.Native.Nat.{ℕ, suc, _+_, _<_, _≤_}
 use mathlib.Core.Bool.{Bool, true, false, not, _&&_}
-use mathlib.Core.List.{List, [], _∷_, _++_}
+use mathlib.Core.List.{List, [], _∷_, _++_, map}
 use mathlib.Core.Path.{_≡_}
 use lib.ListN.{length}
 use Rattle.record.specs.declared.Leaf.{Leaf}
@@ -64,12 +64,15 @@ unfoldable pub labelled : (ℕ → ℕ) → ℕ → List Call → List Call
 labelled f t [] = []
 labelled f t (c ∷ cs) = givenTo f t c ∷ labelled f (counted t c) cs
 
--- what is asked of the plain queue, and the labels of the insertions in it
+-- what is asked of the plain queue, and the labels of its insertions
 abbrev pub wanted : Call → Request
 wanted (begin {w} asked places) = asks w
 wanted (finish words) = nothing
 wanted withdraw = nothing
 wanted findMin = findLeast
+
+abbrev pub requests : List Call → List Request
+requests cs = map wanted cs
 
 abbrev pub labelIn : Request → List ℕ
 labelIn (put key value label) = label ∷ []
@@ -105,6 +108,9 @@ unlabelled findLeast = findLeast
 unlabelled extractMin = extractMin
 unlabelled (remove r) = remove (record { label = 0; stamp = r .stamp })
 unlabelled nothing = nothing
+
+abbrev pub blanks : List Call → List Request
+blanks cs = map (λ c. unlabelled (wanted c)) cs
 
 -- a proper key, and a live event
 abbrev pub Sound : Queue → Request → Type 0

@@ -19,21 +19,21 @@ abbrev pub noList : BucketList
 noList = record { whole = []; least = [] }
 
 -- the list that a begin leaves with its counts, and the list that was held when a finish ended
-abbrev pub asks : BucketList → Seen
-asks l = record { asked = l; stored = [] }
+abbrev pub askedFor : BucketList → Seen
+askedFor l = record { asked = l; stored = [] }
 
-abbrev pub stores : BucketList → Seen
-stores l = record { asked = noList; stored = l .whole }
+abbrev pub storedBack : BucketList → Seen
+storedBack l = record { asked = noList; stored = l .whole }
 
 -- a call that is refused shows nothing, and "FindMin answers .. with an empty list"
 abbrev pub number : Outcome → ℕ
 number o = numberOf (o .answer)
 
 unfoldable pub seen : World → Call → Seen
-seen u (begin asked places) = asks (unless (number (step u (begin asked places))) (held (step u (begin asked places) .world)) noList)
-seen u (finish words) = stores (unless (number (step u (finish words))) (held u) noList)
-seen u withdraw = asks noList
-seen u findMin = asks noList
+seen u (begin asked places) = askedFor (unless (number (step u (begin asked places))) (held (step u (begin asked places) .world)) noList)
+seen u (finish words) = storedBack (unless (number (step u (finish words))) (held u) noList)
+seen u withdraw = askedFor noList
+seen u findMin = askedFor noList
 
 -- of all calls, one after the other
 unfoldable pub trace : World → List Call → List Seen
