@@ -1,10 +1,10 @@
 // The second entrance: document 01, "one thin second entrance keeps the card where the driver lent it, and equals the first."
 //
 // Each function takes `&mut Card` and the numbers and slices of a call by value, makes that call and stores its card. Its promise is
-// that call's, at the card that stood behind the reference and the card that stands there afterwards. Stands on `card`.
+// that call's, at the card that stood behind the reference and the card that stands there afterwards. Stands on `card` and `shapes`.
 //
-// The checker does not follow a reference to a struct. A function here is proved by the law for its shape (proofs/Of*.antt), and
-// must be written as the law has it: `let done = card.CALL(..); *card = done.card; done.answer`.
+// The checker does not follow a reference to a struct. A function here is proved by the law for its shape (`shapes`), and must be
+// written as the law has it: `let done = card.CALL(..); *card = done.card; done.answer`.
 ghost use Rattle.refusal.specs.Refusal.{firstGiven};
 ghost use Rattle.path.specs.Sizes.{sizesOf};
 ghost use Rattle.card.specs.declared.Waiting.{Waiting};

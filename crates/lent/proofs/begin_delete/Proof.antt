@@ -1,11 +1,11 @@
 -- `lent::begin_delete` meets its contract: the law OfTwoAndSlice at the theorem of the call by value. Assumes nothing.
 use Rattle.card.specs.declared.Waiting.the-variants.{Delete}
 use Rattle.card.specs.Calls.{Begins}
-use Rattle.lent.proofs.Arg.{a-Leaf, a-Stamp}
+use Rattle.shapes.proofs.Arg.{a-Leaf, a-Stamp}
 use contract.Running.{givenOf, tables, tablesOf}
 use denote.Triple.Spec.{tripleOf}
 use denote.Triple.Table.{entered, cited}
-use Rattle.lent.proofs.OfTwoAndSlice.{kept}
+use Rattle.shapes.proofs.OfTwoAndSlice.{kept}
 use Rattle.card.proofs.Card.begin_delete as call
 use Rattle.card.proofs.Card.begin_delete.Symbol as call-def
 use Rattle.card.proofs.Card.begin_delete.Met as call-thm

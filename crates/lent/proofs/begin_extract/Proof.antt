@@ -4,7 +4,7 @@ use Rattle.card.specs.Calls.{Begins}
 use contract.Running.{givenOf, tables, tablesOf}
 use denote.Triple.Spec.{tripleOf}
 use denote.Triple.Table.{entered, cited}
-use Rattle.lent.proofs.OfCardAndSlice.{kept}
+use Rattle.shapes.proofs.OfCardAndSlice.{kept}
 use Rattle.card.proofs.Card.begin_extract as call
 use Rattle.card.proofs.Card.begin_extract.Symbol as call-def
 use Rattle.card.proofs.Card.begin_extract.Met as call-thm

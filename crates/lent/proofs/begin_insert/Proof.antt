@@ -1,11 +1,11 @@
 -- `lent::begin_insert` meets its contract: the law OfFiveAndSlice at the theorem of the call by value. Assumes nothing.
 use Rattle.card.specs.declared.Waiting.the-variants.{Insert}
 use Rattle.card.specs.Calls.{Begins}
-use Rattle.lent.proofs.Arg.{a-u64, a-Leaf}
+use Rattle.shapes.proofs.Arg.{a-u64, a-Leaf}
 use contract.Running.{givenOf, tables, tablesOf}
 use denote.Triple.Spec.{tripleOf}
 use denote.Triple.Table.{entered, cited}
-use Rattle.lent.proofs.OfFiveAndSlice.{kept}
+use Rattle.shapes.proofs.OfFiveAndSlice.{kept}
 use Rattle.card.proofs.Card.begin_insert as call
 use Rattle.card.proofs.Card.begin_insert.Symbol as call-def
 use Rattle.card.proofs.Card.begin_insert.Met as call-thm

@@ -5,7 +5,7 @@ use Rattle.card.specs.Calls.{minTable, foundMin}
 use contract.Running.{givenOf, tables, tablesOf}
 use denote.Triple.Spec.{tripleOf}
 use denote.Triple.Table.{entered, cited}
-use Rattle.lent.proofs.OfCard.{kept}
+use Rattle.shapes.proofs.OfCard.{kept}
 use Rattle.card.proofs.Card.find_min as call
 use Rattle.card.proofs.Card.find_min.Symbol as call-def
 use Rattle.card.proofs.Card.find_min.Met as call-thm

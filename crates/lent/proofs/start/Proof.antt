@@ -3,11 +3,11 @@ use Rattle.refusal.specs.Refusal.{firstGiven}
 use Rattle.path.specs.Sizes.{sizesOf}
 use Rattle.card.specs.Answers.{Answered}
 use Rattle.card.specs.Calls.{startTable, started}
-use Rattle.lent.proofs.Arg.{a-u64}
+use Rattle.shapes.proofs.Arg.{a-u64}
 use contract.Running.{givenOf, tables, tablesOf}
 use denote.Triple.Spec.{tripleOf}
 use denote.Triple.Table.{entered, cited}
-use Rattle.lent.proofs.OfFour.{kept}
+use Rattle.shapes.proofs.OfFour.{kept}
 use Rattle.lent.proofs.afresh.start_over as call
 use Rattle.lent.proofs.afresh.start_over.Symbol as call-def
 use Rattle.lent.proofs.afresh.start_over.Met as call-thm

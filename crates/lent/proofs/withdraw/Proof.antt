@@ -5,7 +5,7 @@ use Rattle.card.specs.Calls.{withdrawTable, withdrawn}
 use contract.Running.{givenOf, tables, tablesOf}
 use denote.Triple.Spec.{tripleOf}
 use denote.Triple.Table.{entered, cited}
-use Rattle.lent.proofs.OfCard.{kept}
+use Rattle.shapes.proofs.OfCard.{kept}
 use Rattle.card.proofs.Card.withdraw as call
 use Rattle.card.proofs.Card.withdraw.Symbol as call-def
 use Rattle.card.proofs.Card.withdraw.Met as call-thm

@@ -39,7 +39,6 @@ use denote.Steps.{only, opens, closes, owned, peeks, heard, nothing}
 use denote.Struct.Steps.{spelt}
 use denote.Struct.Laws as LL
 use denote.Enum.Laws as EL
-use denote.Triple.Entry.{onEntry}
 use denote.Triple.Spec.{Meets, tripleOf}
 use denote.Triple.Statement.{Contract, Triple}
 use denote.Triple.Call.{calls-at}
@@ -174,6 +173,7 @@ module _ {M : Type 1} (𝓤 : URA M) (Promise : Card → List ℕ → List ℕ �
     walks C Λ fm k known = walked 𝓤 H A ended stayed clauses (WpFn 𝓤 H C Λ (fn k)) (λ κs. (ptr-vals, (slice-vals, tt))) (λ κs. (mut-tells (named 0) (κs .0) T.the-row, (mut-slice-tells (named 1) (κs .1 .0) u64, tt)))
         (λ κs qs bounds a _ are. walk (κs .0) (κs .1 .0) (qs .0) (qs .1 .0) (a .0 .ptr .0) (a .0 .ptr .1) (a .0 .name) (a .0 .now) (a .1 .0 .ptr .0) (a .1 .0 .ptr .1) (a .1 .0 .name) (a .1 .0 .now) C Λ fm k known (are .1 .0 .0 .1))
 
+    -- the law: where the call keeps the promise by value, f keeps it on the card that is lent
     pub kept : (k : Name) (𝓣 : Tables 𝓤 H) → Triple 𝓤 (𝓣 .C k) Of → Meets 𝓤 H A sig (WpFn 𝓤 H (𝓣 .C) (𝓣 .Λ) (fn k)) (closing 𝓤 H A ended clauses)
     kept k 𝓣 known = walk-meets 𝓤 H A ended stayed W (goes-ref 𝓤 H A W 2 0 tt (plain (λ _. T.the-row)), (goes-gave-slice 𝓤 H A W 2 1 tt (plain (λ _. u64)), tt)) clauses (WpFn 𝓤 H (𝓣 .C) (𝓣 .Λ) (fn k)) (WpFn-mono 𝓤 H (W .laws) 𝓣 (fn k))
         (walks (𝓣 .C) (𝓣 .Λ) (fmOf 𝓤 H (W .laws) 𝓣) k known)
