@@ -25,7 +25,7 @@
  *     nwidarap_fetch          -> the listed buckets' words
  *     nwidarap_finish         works on the card and on these words
  *     nwidarap_store          with the same list, counts and words, before the next begin
- * Until its finish the request waits on the card; nwidarap_withdraw drops it.
+ * Until its finish the request waits on the card; nwidarap_withdraw drops it. sample.c beside this file is a short driver.
  */
 #ifndef NWIDARAP_H
 #define NWIDARAP_H

@@ -8,7 +8,7 @@ use crate::places::tree_words;
 use crate::refusal::Refusal;
 
 /// "one over 128 bytes" can't be read.
-const LONGEST_LINE: usize = 128;
+pub const LONGEST_LINE: usize = 128;
 /// "a `size` within its ranges whose tree is over 8,192 words prints `?`".
 const LARGEST_TREE: u64 = 8192;
 

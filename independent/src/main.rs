@@ -20,6 +20,7 @@ mod frame;
 mod frames;
 mod heap;
 mod honestframes;
+mod linetally;
 mod makeframe;
 mod oddlines;
 mod placements;
@@ -34,8 +35,10 @@ mod record;
 mod refusal;
 mod scripts;
 mod tally;
+mod tell;
 mod world;
 
+use std::fs::{read, File};
 use std::io::{stdin, stdout, BufReader, BufWriter, Write};
 use std::process::ExitCode;
 
@@ -49,7 +52,8 @@ fn main() -> ExitCode {
         Some(true) => ExitCode::SUCCESS,
         Some(false) => ExitCode::FAILURE,
         None => {
-            eprintln!("desk | probe | count-frames");
+            eprintln!("desk | probe | count-frames | count-lines SCRIPT...");
+            eprintln!("tell-lines SCRIPT PRINTED | tell-frames ASKED REPLIES");
             eprintln!("scripts SEED COUNT | frames SEED COUNT | check SEED COUNT");
             ExitCode::from(2)
         }
@@ -64,6 +68,21 @@ fn run(words: &[&str]) -> Option<bool> {
         ["desk"] => desk::play(&mut input, &mut output),
         ["probe"] => probe::probe(&mut input, &mut output),
         ["count-frames"] => return Some(tally::count_frames(&mut input, &mut output)),
+        ["count-lines", scripts @ ..] => {
+            let mut tally = linetally::LineTally::default();
+            for script in scripts {
+                tally.count_script(&read(script).ok()?);
+            }
+            return Some(tally.report(&mut output));
+        }
+        ["tell-lines", script, printed] => {
+            let (mut script, mut printed) = (file(script)?, file(printed)?);
+            return Some(tell::tell_lines(&mut script, &mut printed, &mut output));
+        }
+        ["tell-frames", asked, replies] => {
+            let (mut asked, mut replies) = (file(asked)?, file(replies)?);
+            return Some(tell::tell_frames(&mut asked, &mut replies, &mut output));
+        }
         ["scripts", seed, count] => {
             let script = scripts::script(number(seed)?, number(count)?);
             let _ = output.write_all(&script);
@@ -75,6 +94,10 @@ fn run(words: &[&str]) -> Option<bool> {
         _ => return None,
     }
     Some(true)
+}
+
+fn file(path: &str) -> Option<BufReader<File>> {
+    Some(BufReader::new(File::open(path).ok()?))
 }
 
 fn number(word: &str) -> Option<u64> {

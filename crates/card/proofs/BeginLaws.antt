@@ -21,14 +21,16 @@ use Rattle.refusal.specs.Refusal.{firstGiven}
 use Rattle.refusal.proofs.RefusalLaws.{none-given, Numbered, none, next, first-append, append-none}
 use Rattle.root.specs.Root.{rootFull}
 use Rattle.card.specs.declared.Card.{Card}
-use Rattle.card.specs.declared.Waiting.{Waiting}
-use Rattle.card.specs.declared.Waiting.the-variants.{Nothing, Insert, Extract, Delete}
+use Rattle.request.specs.declared.Waiting.{Waiting}
+use Rattle.request.specs.declared.Waiting.the-variants.{Nothing, Insert, Extract, Delete}
 use Rattle.card.specs.declared.Answer.the-variants.{Listed}
-use Rattle.card.specs.Tables.{leavesIn, nextStamp, badLabel, insertRows, extractRows, deleteRows, requestRows, requestTable, waits}
+use Rattle.request.specs.Tables.{badLabel, insertRows, extractRows, deleteRows, requestRows, waits}
+use Rattle.card.specs.Tables.{leavesIn, nextStamp, requestTable}
 use Rattle.card.specs.BadCard.{badCard}
 use Rattle.judge.specs.BadParts.{oddLeast}
 use Rattle.card.specs.Answers.{refused}
-use Rattle.card.specs.Calls.{listOf, countsFor, beginTable, withWaiting, begun, Begins}
+use Rattle.request.specs.Tables.{countsFor}
+use Rattle.card.specs.Calls.{listOf, beginTable, withWaiting, begun, Begins}
 use Rattle.card.proofs.AnswerLaws.{is-refused, is-done}
 use Rattle.card.proofs.GoodLaws.{Good, good}
 use Rattle.judge.proofs.FitLaws.{neither}

@@ -18,10 +18,12 @@ use Rattle.refusal.specs.Refusal.{firstGiven}
 use Rattle.refusal.proofs.RefusalLaws.{none-given, Numbered, none, next}
 use Rattle.card.specs.declared.Card.{Card}
 use Rattle.card.specs.BadCard.{badCard}
-use Rattle.card.specs.declared.Waiting.{Waiting}
-use Rattle.card.specs.declared.Waiting.the-variants.{Nothing, Insert, Extract, Delete}
-use Rattle.card.specs.Tables.{leavesIn, nextStamp, requestTable, waits}
-use Rattle.card.specs.Calls.{listOf, countsFor}
+use Rattle.request.specs.declared.Waiting.{Waiting}
+use Rattle.request.specs.declared.Waiting.the-variants.{Nothing, Insert, Extract, Delete}
+use Rattle.request.specs.Tables.{waits}
+use Rattle.card.specs.Tables.{leavesIn, nextStamp, requestTable}
+use Rattle.request.specs.Tables.{countsFor}
+use Rattle.card.specs.Calls.{listOf}
 use Rattle.card.specs.Finish.{wordsNeeded, entryTable}
 use Rattle.card.proofs.GoodLaws.{Good, good}
 use Rattle.card.proofs.BeginLaws.{counts-for, insertable, extractable, deletable, least-proper}

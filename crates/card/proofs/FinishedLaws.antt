@@ -18,8 +18,8 @@ use Rattle.settle.specs.Settled.{settled, Settles}
 use Rattle.settle.proofs.PreparedLaws.{settles-damaged, settles-done}
 use Rattle.removal.proofs.ExtractLaws.{extract-settles}
 use Rattle.card.specs.declared.Card.{Card}
-use Rattle.card.specs.declared.Waiting.{Waiting}
-use Rattle.card.specs.declared.Waiting.the-variants.{Nothing, Insert, Extract, Delete}
+use Rattle.request.specs.declared.Waiting.{Waiting}
+use Rattle.request.specs.declared.Waiting.the-variants.{Nothing, Insert, Extract, Delete}
 use Rattle.card.specs.declared.Answer.the-variants.{Inserted, Extracted, Deleted}
 use Rattle.card.specs.declared.Done.{Done}
 use Rattle.card.specs.Tables.{cardOf, nextStamp}

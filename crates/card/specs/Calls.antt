@@ -9,17 +9,17 @@ use Rattle.record.specs.declared.Record.{Record}
 use Rattle.record.specs.Standing.{dummy}
 use Rattle.record.specs.Words.{record4}
 use Rattle.path.specs.declared.sizes.Sizes.{Sizes}
-use Rattle.path.specs.declared.list.Listed.{Listed as Counts}
 use Rattle.path.specs.Sizes.{inRange}
-use Rattle.path.specs.BucketList.{BucketList, pairList, pathList, numbers, laid, pairCounts, pathCounts}
+use Rattle.path.specs.BucketList.{BucketList, pairList, pathList, numbers, laid}
 use Rattle.refusal.specs.Refusal.{Refusal, row, firstGiven}
 use Rattle.card.specs.declared.Card.{Card}
-use Rattle.card.specs.declared.Waiting.{Waiting}
-use Rattle.card.specs.declared.Waiting.the-variants.{Nothing, Insert, Extract, Delete}
+use Rattle.request.specs.declared.Waiting.{Waiting}
+use Rattle.request.specs.declared.Waiting.the-variants.{Nothing, Insert, Extract, Delete}
 use Rattle.card.specs.declared.Answer.the-variants.{Started, Listed, Least, Withdrawn}
 use Rattle.card.specs.declared.Done.{Done}
 use Rattle.card.specs.BadCard.{badCard}
-use Rattle.card.specs.Tables.{requestTable, waits}
+use Rattle.request.specs.Tables.{waits}
+use Rattle.card.specs.Tables.{requestTable}
 use Rattle.card.specs.Answers.{Answered}
 
 -- a card with another waiting request, all else as it was
@@ -60,13 +60,6 @@ listOf k Nothing = record { whole = []; least = [] }
 listOf k (Insert key value label first second) = pairList (k .sizes .h) first second
 listOf k Extract = pathList (k .sizes .h) (k .least .label)
 listOf k (Delete label stamp) = pathList (k .sizes .h) label
-
--- how many numbers such a list has, whole and least-record only, by the height alone
-unfoldable pub countsFor : ℕ → Waiting → Counts
-countsFor h Nothing = record { whole = 0; least = 0 }
-countsFor h (Insert key value label first second) = pairCounts h
-countsFor h Extract = pathCounts h
-countsFor h (Delete label stamp) = pathCounts h
 
 -- "13, 2 or 3, 4, 5, 6, 7, 8, 9, 10, 11": a request that is begun with room for so many numbers
 unfoldable pub beginTable : Card → Waiting → ℕ → List Refusal

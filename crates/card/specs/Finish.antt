@@ -14,12 +14,13 @@ use Rattle.gather.specs.Removal.{named}
 use Rattle.refusal.specs.Refusal.{Refusal, row, firstGiven}
 use Rattle.settle.specs.Left.{Left, wordsLeft, removal, insertion, removalDamaged, insertionDamaged}
 use Rattle.card.specs.declared.Card.{Card}
-use Rattle.card.specs.declared.Waiting.{Waiting}
-use Rattle.card.specs.declared.Waiting.the-variants.{Nothing, Insert, Extract, Delete}
+use Rattle.request.specs.declared.Waiting.{Waiting}
+use Rattle.request.specs.declared.Waiting.the-variants.{Nothing, Insert, Extract, Delete}
 use Rattle.card.specs.declared.Answer.the-variants.{Inserted, Extracted, Deleted}
 use Rattle.card.specs.declared.Done.{Done}
 use Rattle.card.specs.BadCard.{badCard}
-use Rattle.card.specs.Tables.{waits, nextStamp}
+use Rattle.request.specs.Tables.{waits}
+use Rattle.card.specs.Tables.{nextStamp}
 use Rattle.card.specs.Answers.{refused, Answered}
 use Rattle.card.specs.Calls.{listOf}
 

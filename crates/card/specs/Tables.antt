@@ -1,20 +1,14 @@
--- When a request is refused: document 01, "Refusal numbers", numbers 4 to 10, in their order. A request that waits and one
--- that is begun are judged by the same table, as if none waited. Assumes nothing.
-use Prim.Native.Nat.{ℕ, _/_}
-use mathlib.Core.Bool.{Bool, true, false, not, _||_}
-use mathlib.Core.List.{List, [], _∷_}
-use lib.Dec.{ltb, leb, eqb}
-use Rattle.record.specs.declared.Leaf.{Leaf}
+-- A card's parts, and the table of a request on a card. Assumes nothing.
+use Prim.Native.Nat.{ℕ}
+use mathlib.Core.List.{List}
 use Rattle.record.specs.declared.Stamp.{Stamp}
 use Rattle.record.specs.declared.Record.{Record}
-use Rattle.record.specs.Standing.{dummyKey, known}
 use Rattle.path.specs.declared.sizes.Sizes.{Sizes}
 use Rattle.path.specs.Sizes.{leavesOf}
-use Rattle.root.specs.Root.{rootFull}
-use Rattle.refusal.specs.Refusal.{Refusal, row}
+use Rattle.refusal.specs.Refusal.{Refusal}
 use Rattle.card.specs.declared.Card.{Card}
-use Rattle.card.specs.declared.Waiting.{Waiting}
-use Rattle.card.specs.declared.Waiting.the-variants.{Nothing, Insert, Extract, Delete}
+use Rattle.request.specs.declared.Waiting.{Waiting}
+use Rattle.request.specs.Tables.{requestRows}
 
 -- N of a card, and the stamp of its next insertion
 abbrev pub leavesIn : Card → ℕ
@@ -27,47 +21,6 @@ nextStamp k = record { 0 = k .t }
 abbrev pub cardOf : Sizes → ℕ → ℕ → List Record → Record → Waiting → Card
 cardOf s t c root least w = record { sizes = s; t = t; c = c; root = root; least = least; waiting = w }
 
--- "label N or more"
-abbrev pub badLabel : ℕ → Leaf → Bool
-badLabel n label = leb n (label .0)
-
--- "an eviction leaf outside its half": "the first below N/2, the second from N/2 to N-1"
-abbrev pub badHalves : ℕ → Leaf → Leaf → Bool
-badHalves n first second = leb (n / 2) (first .0) || (ltb (second .0) (n / 2) || leb n (second .0))
-
--- Insert, ExtractMin and Delete on a card of these sizes and counts
-module _ (s : Sizes) (t c : ℕ) where
-  unfoldable pub insertRows : List Record → ℕ → Leaf → Leaf → Leaf → List Refusal
-  insertRows root key label first second =
-      row 4 (eqb t (s .t))
-      ∷ row 5 (eqb key dummyKey)
-      ∷ row 6 (badLabel (leavesOf (s .h)) label || badHalves (leavesOf (s .h)) first second)
-      ∷ row 9 (eqb c (leavesOf (s .h)))
-      ∷ row 10 (rootFull (s .r) root)
-      ∷ []
-
-  unfoldable pub extractRows : List Refusal
-  extractRows = row 4 (eqb t (s .t)) ∷ row 8 (eqb c 0) ∷ []
-
-  unfoldable pub deleteRows : Leaf → Stamp → List Refusal
-  deleteRows label stamp =
-      row 4 (eqb t (s .t))
-      ∷ row 6 (badLabel (leavesOf (s .h)) label)
-      ∷ row 7 (not (known (record { 0 = t }) stamp))
-      ∷ []
-
-  unfoldable pub requestRows : List Record → Waiting → List Refusal
-  requestRows root Nothing = []
-  requestRows root (Insert key value label first second) = insertRows root key label first second
-  requestRows root Extract = extractRows
-  requestRows root (Delete label stamp) = deleteRows label stamp
-
+-- the rows of a request stand in request/specs/Tables.antt
 abbrev pub requestTable : Card → Waiting → List Refusal
 requestTable k w = requestRows (k .sizes) (k .t) (k .c) (k .root) w
-
--- whether a request waits
-unfoldable pub waits : Waiting → Bool
-waits Nothing = false
-waits (Insert key value label first second) = true
-waits Extract = true
-waits (Delete label stamp) = true

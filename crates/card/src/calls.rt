@@ -8,7 +8,6 @@ ghost use Rattle.card.specs.Calls.{freshCard, zeroCard, startTable, star
 use crate::Answer;
 use crate::Card;
 use crate::Done;
-use crate::Waiting;
 use crate::why::why_begin;
 use crate::why::why_min;
 use crate::why::why_withdraw;
@@ -17,6 +16,7 @@ use record::Leaf;
 use record::Record;
 use record::Stamp;
 use refusal::BAD_SIZE;
+use request::Waiting;
 
 impl Card {
     // A card on which nothing is finished, live or waiting.

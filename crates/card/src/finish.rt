@@ -10,13 +10,13 @@ ghost use Rattle.card.specs.Finish.{entryTable, Finishes};
 use crate::Answer;
 use crate::Card;
 use crate::Done;
-use crate::Waiting;
 use crate::why::why_finish;
 use record::Leaf;
 use record::Record;
 use record::Stamp;
 use refusal::DAMAGED;
 use refusal::IDLE;
+use request::Waiting;
 use settle::Settled;
 
 impl Card {

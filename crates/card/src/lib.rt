@@ -2,32 +2,16 @@
 // slots, the root's least record and the waiting request, if any."
 //
 // A card is a value that goes in with a call and comes out of it. Every call answers, whatever numbers the card holds.
-// Stands on `record`, `path`, `refusal`, `root`, `judge`, `removal`, `insertion`.
+// Stands on `record`, `path`, `refusal`, `request`, `judge`, `removal`, `insertion`.
 mod calls;
 mod finish;
-mod request;
 mod why;
 
 use path::Sizes;
 use record::Leaf;
 use record::Record;
 use record::Stamp;
-
-pub enum Waiting {
-    Nothing,
-    Insert {
-        key: u64,
-        value: u64,
-        label: Leaf,
-        first: Leaf,
-        second: Leaf,
-    },
-    Extract,
-    Delete {
-        label: Leaf,
-        stamp: Stamp,
-    },
-}
+use request::Waiting;
 
 pub struct Card {
     pub sizes: Sizes,

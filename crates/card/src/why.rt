@@ -4,43 +4,22 @@ ghost use mathlib.Core.Path.{_≡_};
 ghost use Prim.Native.Nat.{_≤_};
 ghost use lib.ListN.{length};
 ghost use Rattle.record.specs.Words.{records};
-ghost use Rattle.path.specs.BucketList.{fetchedFor};
 ghost use Rattle.refusal.specs.Refusal.{firstGiven};
 ghost use Rattle.card.specs.BadCard.{badCard};
-ghost use Rattle.card.specs.Calls.{countsFor, beginTable, minTable, withdrawTable};
+ghost use Rattle.card.specs.Calls.{beginTable, minTable, withdrawTable};
 ghost use Rattle.card.specs.Finish.{entryTable};
 use crate::Card;
-use crate::Waiting;
-use crate::request::is_waiting;
-use crate::request::why_request;
 use judge::ROOT_PLACES;
-use path::Listed;
-use path::Sizes;
-use record::RECORD_WORDS;
 use refusal::BAD_CARD;
 use refusal::BUSY;
 use refusal::EMPTY;
 use refusal::IDLE;
 use refusal::SHORT_ROOM;
-
-// How many numbers the list of a request has.
-fn counts_for(sizes: Sizes, request: Waiting) -> Listed
-    requires { ⌜ (1 ≤ sizes .h) × (sizes .h ≤ 16) ⌝ }
-    ensures { λ r. ⌜ r ≡ countsFor (sizes .h) request ⌝ }
-{
-    match request {
-        Waiting::Nothing => Listed { whole: 0, least: 0 },
-        Waiting::Insert {
-            key: _,
-            value: _,
-            label: _,
-            first: _,
-            second: _,
-        } => sizes.pair_counts(),
-        Waiting::Extract => sizes.path_counts(),
-        Waiting::Delete { label: _, stamp: _ } => sizes.path_counts(),
-    }
-}
+use request::Waiting;
+use request::counts_for;
+use request::fetched_for;
+use request::is_waiting;
+use request::why_request;
 
 // BadCard; the root's 64 places are left in the lent words, where the tests that follow look at them.
 fn is_bad_card(card: Card, places: &mut [u64]) -> bool
@@ -107,14 +86,6 @@ pub(crate) fn why_begin(card: Card, request: Waiting, room: usize) -> u64
         return SHORT_ROOM;
     }
     0
-}
-
-// The words that are fetched for a list of so many numbers.
-fn fetched_for(counts: Listed, z: usize) -> usize
-    requires { ⌜ (z ≤ 5) × ((counts .whole ≤ 32) × (counts .least ≤ 32)) ⌝ }
-    ensures { λ n. ⌜ n ≡ fetchedFor z counts ⌝ }
-{
-    counts.whole * (RECORD_WORDS * (z + 1)) + counts.least * RECORD_WORDS
 }
 
 // Why a finish is refused before what was fetched is looked at.

@@ -1,11 +1,11 @@
 // Cards to call: started ones, and forged ones, which differ from a good card in the numbers that are given.
 ghost use Prim.Native.Nat.{_<_, _≤_};
 use card::Card;
-use card::Waiting;
 use path::Sizes;
 use record::Leaf;
 use record::Record;
 use record::Stamp;
+use request::Waiting;
 
 // 2^64 - 1, the greatest number that a field can hold.
 pub(crate) const TOP: u64 = 18446744073709551615;

@@ -3,8 +3,8 @@ use crate::line;
 use card::Answer;
 use card::Card;
 use card::Done;
-use card::Waiting;
 use record::Record;
+use request::Waiting;
 
 fn record(r: Record) {
     line::number(r.key);

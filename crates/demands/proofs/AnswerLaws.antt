@@ -18,9 +18,9 @@ use Rattle.gather.proofs.RemovalLaws.{member-found}
 use Rattle.judge.specs.BadParts.{stampOf}
 use Rattle.rack.specs.Copy.{fetched}
 use Rattle.card.specs.declared.Card.{Card}
-use Rattle.card.specs.declared.Waiting.{Waiting}
-use Rattle.card.specs.declared.Waiting.the-variants.{Nothing, Insert, Extract, Delete}
-use Rattle.card.specs.Tables.{waits}
+use Rattle.request.specs.declared.Waiting.{Waiting}
+use Rattle.request.specs.declared.Waiting.the-variants.{Nothing, Insert, Extract, Delete}
+use Rattle.request.specs.Tables.{waits}
 use Rattle.card.specs.Calls.{listOf}
 use Rattle.card.specs.Finish.{leftBy, cardLeft, finishedBy, finished}
 use Rattle.card.specs.declared.Done.{Done}

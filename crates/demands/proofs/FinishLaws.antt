@@ -21,7 +21,7 @@ use Rattle.rack.proofs.RefusalLaws.{refuses-words}
 use Rattle.card.specs.declared.Card.{Card}
 use Rattle.card.specs.declared.Answer.the-variants.{Refused}
 use Rattle.card.specs.Answers.{orRefused}
-use Rattle.card.specs.Tables.{waits}
+use Rattle.request.specs.Tables.{waits}
 use Rattle.card.specs.Calls.{listOf}
 use Rattle.card.specs.Finish.{leftBy, cardLeft, wordsNeeded, entryTable, finished}
 use Rattle.served.specs.Ready.{Ready}

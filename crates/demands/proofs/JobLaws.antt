@@ -15,7 +15,7 @@ use borrow.Author.Tests.{eqb-false}
 use Rattle.path.specs.declared.sizes.Sizes.{Sizes}
 use Rattle.path.specs.Sizes.{inRange}
 use Rattle.refusal.specs.Refusal.{firstGiven}
-use Rattle.card.specs.declared.Waiting.{Waiting}
+use Rattle.request.specs.declared.Waiting.{Waiting}
 use Rattle.card.specs.Answers.{orRefused, numberOf}
 use Rattle.card.specs.Calls.{beginTable}
 use Rattle.demands.specs.Queue.{Reference, Event, Queue, Request, Reply, emptyQueue, noDearer, told, extractMin, reply, next}

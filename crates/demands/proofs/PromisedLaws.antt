@@ -16,7 +16,7 @@ use Rattle.refusal.specs.Refusal.{firstGiven}
 use Rattle.rack.specs.declared.Answer.{Answer as RackAnswer}
 use Rattle.rack.specs.Answers.{answerNumber, fillRefusal}
 use Rattle.rack.specs.Promises.{Fills}
-use Rattle.card.specs.declared.Waiting.{Waiting}
+use Rattle.request.specs.declared.Waiting.{Waiting}
 use Rattle.card.specs.declared.Done.{Done}
 use Rattle.card.specs.Answers.{orRefused, numberOf, Answered}
 use Rattle.card.specs.Calls.{startTable, started, zeroCard, Begins, beginTable, begun, listOf}

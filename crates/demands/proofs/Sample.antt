@@ -7,7 +7,7 @@ use mathlib.Core.Path.{_≡_, refl}
 use native.Mathlib.Omega.{arith}
 use lib.ListN.{replicate}
 use Rattle.record.specs.Standing.{dummyKey}
-use Rattle.card.specs.declared.Waiting.{Waiting}
+use Rattle.request.specs.declared.Waiting.{Waiting}
 use Rattle.demands.specs.World.{Asked}
 use Rattle.record.specs.Many.{every, reals, bears, stampTwice}
 use Rattle.record.specs.Order.{noLater, smallerBy, smallestBy}
@@ -34,7 +34,7 @@ use Rattle.card.specs.Answers.{orRefused}
 use Rattle.card.specs.BadCard.{badCard}
 use Rattle.card.specs.Calls.{listOf, beginTable, minTable, withdrawTable}
 use Rattle.card.specs.Finish.{leftBy, damagedBy, entryTable, finishedBy}
-use Rattle.card.specs.Tables.{insertRows, extractRows, deleteRows, requestRows, waits}
+use Rattle.request.specs.Tables.{insertRows, extractRows, deleteRows, requestRows, waits}
 use Rattle.path.specs.Sizes.{sizesOf}
 use Rattle.record.specs.declared.Leaf.{Leaf}
 use Rattle.card.specs.Answers.{numberOf, valuesOf}

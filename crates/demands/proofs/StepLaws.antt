@@ -15,13 +15,14 @@ use Rattle.path.specs.BucketList.{BucketList, laid}
 use Rattle.refusal.specs.Refusal.{Refusal, row, firstGiven}
 use Rattle.refusal.proofs.RefusalLaws.{none-given}
 use Rattle.card.specs.declared.Card.{Card}
-use Rattle.card.specs.declared.Waiting.{Waiting}
-use Rattle.card.specs.declared.Waiting.the-variants.{Nothing, Insert, Extract, Delete}
+use Rattle.request.specs.declared.Waiting.{Waiting}
+use Rattle.request.specs.declared.Waiting.the-variants.{Nothing, Insert, Extract, Delete}
 use Rattle.card.specs.declared.Answer.{Answer}
 use Rattle.card.specs.declared.Answer.the-variants.{Refused}
 use Rattle.card.specs.declared.Done.{Done}
 use Rattle.card.specs.Answers.{orRefused}
-use Rattle.card.specs.Tables.{insertRows, extractRows, deleteRows, requestRows, requestTable, waits}
+use Rattle.request.specs.Tables.{insertRows, extractRows, deleteRows, requestRows, waits}
+use Rattle.card.specs.Tables.{requestTable}
 use Rattle.card.specs.BadCard.{badCard}
 use Rattle.card.specs.Calls.{listOf, beginTable, begun, minTable, foundMin, withdrawTable, withdrawn, withWaiting}
 use Rattle.card.proofs.BeginLaws.{accepted}

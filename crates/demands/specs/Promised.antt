@@ -8,7 +8,7 @@ use Rattle.refusal.specs.Refusal.{firstGiven}
 use Rattle.rack.specs.declared.Answer.{Answer as RackAnswer}
 use Rattle.rack.specs.Answers.{answerNumber}
 use Rattle.rack.specs.Promises.{Fetches, Stores}
-use Rattle.card.specs.declared.Waiting.{Waiting}
+use Rattle.request.specs.declared.Waiting.{Waiting}
 use Rattle.card.specs.declared.Done.{Done}
 use Rattle.card.specs.Answers.{numberOf, valuesOf, Answered}
 use Rattle.card.specs.Calls.{Begins, minTable, foundMin, withdrawTable, withdrawn}

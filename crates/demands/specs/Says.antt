@@ -3,8 +3,8 @@ use mathlib.Core.Option.{some}
 use Rattle.record.specs.declared.Leaf.{Leaf}
 use Rattle.record.specs.declared.Stamp.{Stamp}
 use Rattle.record.specs.declared.Record.{Record}
-use Rattle.card.specs.declared.Waiting.{Waiting}
-use Rattle.card.specs.declared.Waiting.the-variants.{Nothing, Insert, Extract, Delete}
+use Rattle.request.specs.declared.Waiting.{Waiting}
+use Rattle.request.specs.declared.Waiting.the-variants.{Nothing, Insert, Extract, Delete}
 use Rattle.card.specs.declared.Answer.{Answer}
 use Rattle.card.specs.declared.Answer.the-variants.{Started, Listed, Least, Withdrawn, Inserted, Extracted, Deleted, Refused}
 use Rattle.demands.specs.Queue.{Reference, Event, Request, insert, extractMin, delete, nothing, findMin as findLeast}

@@ -17,8 +17,8 @@ use Rattle.rack.specs.Refusals.{afterwards}
 use Rattle.rack.specs.Answers.{copyRefusal}
 use Rattle.rack.specs.Copy.{listed, fetched, stored}
 use Rattle.card.specs.declared.Card.{Card}
-use Rattle.card.specs.declared.Waiting.{Waiting}
-use Rattle.card.specs.declared.Waiting.the-variants.{Insert, Extract, Delete}
+use Rattle.request.specs.declared.Waiting.{Waiting}
+use Rattle.request.specs.declared.Waiting.the-variants.{Insert, Extract, Delete}
 use Rattle.card.specs.declared.Answer.{Answer}
 use Rattle.card.specs.declared.Done.{Done}
 use Rattle.card.specs.Answers.{orRefused}

@@ -11,7 +11,7 @@ use Rattle.path.specs.BucketList.{laid}
 use Rattle.refusal.specs.Refusal.{Refusal, firstGiven}
 use Rattle.card.specs.declared.Card.{Card}
 use Rattle.card.specs.declared.Done.{Done}
-use Rattle.card.specs.declared.Waiting.{Waiting}
+use Rattle.request.specs.declared.Waiting.{Waiting}
 use Rattle.card.specs.Answers.{numberOf, Answered}
 use Rattle.card.specs.Calls.{listOf, beginTable, begun, Begins}
 use Rattle.card.specs.Finish.{finishTable, finished, Finishes}

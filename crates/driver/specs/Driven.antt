@@ -6,7 +6,7 @@ use lib.ListN.{length}
 use Rattle.path.specs.BucketList.{laid}
 use Rattle.refusal.specs.Refusal.{Refusal, row, firstGiven}
 use Rattle.card.specs.declared.Card.{Card}
-use Rattle.card.specs.declared.Waiting.{Waiting}
+use Rattle.request.specs.declared.Waiting.{Waiting}
 use Rattle.card.specs.Calls.{listOf, beginTable, begun}
 use Rattle.card.specs.Finish.{leftBy, finishTable, finished}
 use Rattle.image.specs.Reading.{cardIn, oddKind}

@@ -7,10 +7,10 @@ ghost use Rattle.refusal.specs.Refusal.{firstGiven};
 ghost use Rattle.driver.specs.Driven.{onCard, BeginsAt, FinishesAt};
 ghost use Rattle.told.specs.Told.{Called};
 use card::Card;
-use card::Waiting;
 use record::Leaf;
 use record::Stamp;
 use refusal::BAD_CARD;
+use request::Waiting;
 
 #[no_mangle]
 pub extern "C" fn nwidarap_start(

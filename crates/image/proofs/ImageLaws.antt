@@ -18,8 +18,8 @@ use Rattle.path.specs.declared.sizes.Sizes.{Sizes}
 use Rattle.gather.specs.Laid.{laidOver}
 use Rattle.gather.proofs.LaidLaws.{laid-length, laid-more, written-laid}
 use Rattle.card.specs.declared.Card.{Card}
-use Rattle.card.specs.declared.Waiting.{Waiting}
-use Rattle.card.specs.declared.Waiting.the-variants.{Nothing, Insert, Extract, Delete}
+use Rattle.request.specs.declared.Waiting.{Waiting}
+use Rattle.request.specs.declared.Waiting.the-variants.{Nothing, Insert, Extract, Delete}
 use Rattle.card.specs.Tables.{cardOf}
 use Rattle.image.specs.Image.{requestWords, headOf, imageOf}
 use Rattle.image.specs.Reading.{waitingOf, waitingIn, cardIn, oddKind}

@@ -4,8 +4,8 @@ use mathlib.Core.List.{List, [], _∷_, _++_}
 use Rattle.record.specs.Words.{wordsOf}
 use Rattle.path.specs.declared.sizes.Sizes.{Sizes}
 use Rattle.card.specs.declared.Card.{Card}
-use Rattle.card.specs.declared.Waiting.{Waiting}
-use Rattle.card.specs.declared.Waiting.the-variants.{Nothing, Insert, Extract, Delete}
+use Rattle.request.specs.declared.Waiting.{Waiting}
+use Rattle.request.specs.declared.Waiting.the-variants.{Nothing, Insert, Extract, Delete}
 
 -- "the waiting request, if any": its kind and five fields; a field that the kind has not got is 0
 unfoldable pub requestWords : Waiting → List ℕ

@@ -7,8 +7,8 @@ use lib.ListN.{getD, drop}
 use Rattle.record.specs.Words.{recordAt, records}
 use Rattle.path.specs.Sizes.{sizesOf}
 use Rattle.card.specs.declared.Card.{Card}
-use Rattle.card.specs.declared.Waiting.{Waiting}
-use Rattle.card.specs.declared.Waiting.the-variants.{Nothing, Insert, Extract, Delete}
+use Rattle.request.specs.declared.Waiting.{Waiting}
+use Rattle.request.specs.declared.Waiting.the-variants.{Nothing, Insert, Extract, Delete}
 
 -- a kind that no request has: such words stand for no card, and an entrance that is lent them gives 13
 abbrev pub oddKind : List ℕ → Bool

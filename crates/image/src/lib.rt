@@ -9,11 +9,11 @@ ghost use lib.ListN.{length};
 ghost use Rattle.image.specs.Image.{requestWords, headOf, imageOf};
 ghost use Rattle.image.specs.Reading.{waitingOf, cardIn, oddKind};
 use card::Card;
-use card::Waiting;
 use path::Sizes;
 use record::Leaf;
 use record::Record;
 use record::Stamp;
+use request::Waiting;
 
 // The kinds of a waiting request. A card is never read with another: whoever lends one is told that it is bad.
 pub const KIND_NOTHING: u64 = 0;

@@ -24,7 +24,7 @@ use Rattle.card.specs.Answers.{orRefused}
 use Rattle.card.specs.BadCard.{badCard}
 use Rattle.card.specs.Calls.{startTable, listOf, beginTable, minTable}
 use Rattle.card.specs.Finish.{leftBy, damagedBy, entryTable, finishedBy}
-use Rattle.card.specs.Tables.{insertRows, extractRows, deleteRows, requestRows, waits}
+use Rattle.request.specs.Tables.{insertRows, extractRows, deleteRows, requestRows, waits}
 use Rattle.rack.specs.Answers.{anyOutside}
 use Rattle.rack.specs.Copy.{stored}
 use Rattle.decimal.specs.Digits.{digits, fewest, valueFrom}

@@ -7,7 +7,7 @@ use Rattle.path.specs.Path.{bucket}
 use Rattle.path.specs.Layout.{recordWords}
 use Rattle.path.specs.BucketList.{numbers}
 use Rattle.rack.specs.Copy.{bucketPart}
-use Rattle.card.specs.declared.Waiting.{Waiting}
+use Rattle.request.specs.declared.Waiting.{Waiting}
 use Rattle.card.specs.Calls.{zeroCard, listOf}
 use Rattle.lines.specs.Says.{lineSays}
 use Rattle.turns.specs.declared.Desk.{Desk}

@@ -2,7 +2,7 @@
 use Prim.Native.Nat.{ℕ}
 use mathlib.Core.List.{List, [], _∷_}
 use Rattle.record.specs.declared.Leaf.{Leaf}
-use Rattle.card.specs.declared.Waiting.the-variants.{Insert, Extract}
+use Rattle.request.specs.declared.Waiting.the-variants.{Insert, Extract}
 use Rattle.paper.specs.Run.{Row, none, slotsIn, asks}
 
 abbrev pub leaf : ℕ → Leaf

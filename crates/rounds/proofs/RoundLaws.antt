@@ -12,7 +12,7 @@ use Rattle.rack.specs.Copy.{listed}
 use Rattle.rack.proofs.ListedLaws.{listed-laid}
 use Rattle.refusal.specs.Refusal.{firstGiven}
 use Rattle.card.specs.declared.Card.{Card}
-use Rattle.card.specs.declared.Waiting.{Waiting}
+use Rattle.request.specs.declared.Waiting.{Waiting}
 use Rattle.card.specs.declared.Done.{Done}
 use Rattle.card.specs.Answers.{numberOf, refused, orRefused, Answered}
 use Rattle.card.specs.Calls.{withWaiting, listOf, beginTable, begun, Begins}

@@ -12,7 +12,7 @@ use Rattle.rack.specs.Answers.{copyRefusal}
 use Rattle.rack.specs.Copy.{fetched, stored}
 use Rattle.settle.specs.Left.{wordsLeft}
 use Rattle.card.specs.declared.Card.{Card}
-use Rattle.card.specs.declared.Waiting.{Waiting}
+use Rattle.request.specs.declared.Waiting.{Waiting}
 use Rattle.card.specs.declared.Answer.{Answer}
 use Rattle.card.specs.declared.Answer.the-variants.{Started, Listed, Least, Withdrawn, Inserted, Extracted, Deleted, Refused}
 use Rattle.card.specs.declared.Done.{Done}

@@ -3,7 +3,7 @@
 //
 // Whatever card and tree are given, a request is played to its end or refused. The first of the four steps that refuses decides, and
 // then card and tree are as before: the card that was begun is dropped, so no request is left waiting. Stands on `card` and `rack`.
-ghost use Rattle.card.specs.declared.Waiting.{Waiting};
+ghost use Rattle.request.specs.declared.Waiting.{Waiting};
 ghost use Rattle.rounds.specs.Round.{Plays};
 
 mod answer;

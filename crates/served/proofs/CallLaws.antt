@@ -12,9 +12,10 @@ use Rattle.path.specs.Sizes.{inRange}
 use Rattle.path.specs.Layout.{freshTree}
 use Rattle.refusal.specs.Refusal.{firstGiven}
 use Rattle.card.specs.declared.Card.{Card}
-use Rattle.card.specs.declared.Waiting.{Waiting}
-use Rattle.card.specs.declared.Waiting.the-variants.{Nothing}
-use Rattle.card.specs.Tables.{requestRows, requestTable}
+use Rattle.request.specs.declared.Waiting.{Waiting}
+use Rattle.request.specs.declared.Waiting.the-variants.{Nothing}
+use Rattle.request.specs.Tables.{requestRows}
+use Rattle.card.specs.Tables.{requestTable}
 use Rattle.card.specs.BadCard.{badCard}
 use Rattle.card.specs.Calls.{freshCard, withWaiting}
 use Rattle.good.proofs.FewLaws.{heap-card}

@@ -19,7 +19,7 @@ use Rattle.judge.specs.BadParts.{stampOf}
 use Rattle.settle.specs.Left.{Left, wordsLeft, removal, insertion, removalDamaged, insertionDamaged}
 use Rattle.rack.specs.Copy.{fetched, stored}
 use Rattle.card.specs.declared.Card.{Card}
-use Rattle.card.specs.declared.Waiting.the-variants.{Insert, Extract, Delete}
+use Rattle.request.specs.declared.Waiting.the-variants.{Insert, Extract, Delete}
 use Rattle.card.specs.Tables.{nextStamp, requestTable}
 use Rattle.card.specs.Finish.{cardLeft}
 use Rattle.card.proofs.BeginLaws.{Insertable, insertable, extractable, Deletable, deletable}

@@ -14,9 +14,9 @@ use Rattle.refusal.specs.Refusal.{firstGiven}
 use Rattle.settle.specs.Left.{wordsLeft}
 use Rattle.rack.specs.Copy.{fetched, stored}
 use Rattle.card.specs.declared.Card.{Card}
-use Rattle.card.specs.declared.Waiting.{Waiting}
-use Rattle.card.specs.declared.Waiting.the-variants.{Nothing, Insert, Extract, Delete}
-use Rattle.card.specs.Tables.{waits}
+use Rattle.request.specs.declared.Waiting.{Waiting}
+use Rattle.request.specs.declared.Waiting.the-variants.{Nothing, Insert, Extract, Delete}
+use Rattle.request.specs.Tables.{waits}
 use Rattle.card.specs.declared.Done.{Done}
 use Rattle.card.specs.Answers.{orRefused}
 use Rattle.card.specs.Calls.{listOf}

@@ -21,8 +21,8 @@ use Rattle.rack.specs.Copy.{fetchedWords, fetched, stored}
 use Rattle.rack.specs.Promises.{Fetches, Stores}
 use Rattle.rack.proofs.ListedLaws.{listed-laid, laid-passes, path-list-inside, pair-list-inside}
 use Rattle.card.specs.declared.Card.{Card}
-use Rattle.card.specs.declared.Waiting.{Waiting}
-use Rattle.card.specs.declared.Waiting.the-variants.{Nothing, Insert, Extract, Delete}
+use Rattle.request.specs.declared.Waiting.{Waiting}
+use Rattle.request.specs.declared.Waiting.the-variants.{Nothing, Insert, Extract, Delete}
 use Rattle.card.specs.Tables.{requestTable}
 use Rattle.card.specs.Calls.{listOf}
 use Rattle.card.proofs.BeginLaws.{insertable, extractable, deletable}

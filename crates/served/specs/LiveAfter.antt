@@ -8,8 +8,8 @@ use Rattle.record.specs.Standing.{recordOf}
 use Rattle.record.specs.Order.{smallest}
 use Rattle.gather.specs.Removal.{named, found}
 use Rattle.judge.specs.BadParts.{stampOf}
-use Rattle.card.specs.declared.Waiting.{Waiting}
-use Rattle.card.specs.declared.Waiting.the-variants.{Nothing, Insert, Extract, Delete}
+use Rattle.request.specs.declared.Waiting.{Waiting}
+use Rattle.request.specs.declared.Waiting.the-variants.{Nothing, Insert, Extract, Delete}
 use Rattle.good.specs.Live.{without}
 
 -- t is the count of finished requests, the stamp of the next insertion

@@ -6,7 +6,7 @@ use mathlib.Core.Path.{_≡_, refl, sym, ap, _∙_}
 use lib.ListN.{length, take, drop}
 use borrow.Author.Tests.{not-true, not-false}
 use Rattle.refusal.specs.Refusal.{firstGiven}
-use Rattle.card.specs.declared.Waiting.{Waiting}
+use Rattle.request.specs.declared.Waiting.{Waiting}
 use Rattle.card.specs.declared.Done.{Done}
 use Rattle.card.specs.Answers.{Answered}
 use Rattle.card.specs.Calls.{minTable, foundMin}

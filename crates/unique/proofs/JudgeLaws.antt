@@ -1,8 +1,16 @@
--- The judgements on a card and on what was fetched, and a finish on the parts of a card, leave one outcome.
+-- The judgements on a request, a card and what was fetched, and a finish on the parts of a card, leave one outcome.
 -- Assumes nothing.
 use mathlib.Core.Path.{refl}
 use Rattle.unique.specs.One.{Determines}
 use Rattle.unique.proofs.OneLaws.{one-answer}
+use Rattle.request.proofs.is_waiting.Kinds as is-waiting-kinds
+use Rattle.request.proofs.is_waiting.Reads as is-waiting
+use Rattle.request.proofs.why_request.Kinds as why-request-kinds
+use Rattle.request.proofs.why_request.Reads as why-request
+use Rattle.request.proofs.counts_for.Kinds as counts-for-kinds
+use Rattle.request.proofs.counts_for.Reads as counts-for
+use Rattle.request.proofs.fetched_for.Kinds as fetched-for-kinds
+use Rattle.request.proofs.fetched_for.Reads as fetched-for
 use Rattle.root.proofs.slots_fine.Kinds as slots-fine-kinds
 use Rattle.root.proofs.slots_fine.Reads as slots-fine
 use Rattle.root.proofs.all_dummies.Kinds as all-dummies-kinds
@@ -27,6 +35,26 @@ use Rattle.removal.proofs.settle_removal.Kinds as settle-removal-kinds
 use Rattle.removal.proofs.settle_removal.Reads as settle-removal
 use Rattle.insertion.proofs.settle_insertion.Kinds as settle-insertion-kinds
 use Rattle.insertion.proofs.settle_insertion.Reads as settle-insertion
+
+pub one-is-waiting : Determines 0 is-waiting-kinds.ps is-waiting-kinds.r is-waiting.Asked is-waiting.Learnt
+one-is-waiting =
+    one-answer 0 is-waiting-kinds.ps is-waiting-kinds.r is-waiting.Asked is-waiting.Learnt _ _
+    (λ κs a ok x xs f p. (p, refl))
+
+pub one-why-request : Determines 1 why-request-kinds.ps why-request-kinds.r why-request.Asked why-request.Learnt
+one-why-request =
+    one-answer 1 why-request-kinds.ps why-request-kinds.r why-request.Asked why-request.Learnt _ _
+    (λ κs a ok x xs f p. (p, refl))
+
+pub one-counts-for : Determines 0 counts-for-kinds.ps counts-for-kinds.r counts-for.Asked counts-for.Learnt
+one-counts-for =
+    one-answer 0 counts-for-kinds.ps counts-for-kinds.r counts-for.Asked counts-for.Learnt _ _
+    (λ κs a ok x xs f p. (p, refl))
+
+pub one-fetched-for : Determines 0 fetched-for-kinds.ps fetched-for-kinds.r fetched-for.Asked fetched-for.Learnt
+one-fetched-for =
+    one-answer 0 fetched-for-kinds.ps fetched-for-kinds.r fetched-for.Asked fetched-for.Learnt _ _
+    (λ κs a ok x xs f p. (p, refl))
 
 pub one-slots-fine : Determines 1 slots-fine-kinds.ps slots-fine-kinds.r slots-fine.Asked slots-fine.Learnt
 one-slots-fine =

@@ -1,6 +1,6 @@
 -- `rounds::play_extract` meets its contract: begin and what follows are one round. Assumes nothing.
 use borrow.Author.Needs.{needs}
-use Rattle.card.specs.declared.Waiting.the-variants.{Extract}
+use Rattle.request.specs.declared.Waiting.the-variants.{Extract}
 use Rattle.rounds.proofs.RoundLaws.{plays}
 use Rattle.rounds.proofs.play_extract.Statement.{statement}
 use Rattle.rounds.proofs.play_extract.Tie as tie

@@ -1,6 +1,6 @@
 -- `rounds::play_insert` meets its contract: begin and what follows are one round. Assumes nothing.
 use borrow.Author.Needs.{needs}
-use Rattle.card.specs.declared.Waiting.the-variants.{Insert}
+use Rattle.request.specs.declared.Waiting.the-variants.{Insert}
 use Rattle.rounds.proofs.RoundLaws.{plays}
 use Rattle.rounds.proofs.play_insert.Statement.{statement}
 use Rattle.rounds.proofs.play_insert.Tie as tie

@@ -2,7 +2,7 @@ use borrow.Author.Needs.{needs}
 use mathlib.Core.Path.{sym, _∙_}
 use lib.ListN.{length}
 use Rattle.path.proofs.SizesLaws.{in-range}
-use Rattle.card.specs.declared.Waiting.the-variants.{Delete}
+use Rattle.request.specs.declared.Waiting.the-variants.{Delete}
 use Rattle.card.specs.Calls.{listOf}
 use Rattle.card.proofs.BeginLaws.{accepted, deletable, begin-refused, begin-done}
 use Rattle.card.proofs.Card.begin_delete.Statement.{statement}

@@ -3,7 +3,7 @@ use mathlib.Core.Path.{sym, _∙_}
 use lib.ListN.{length}
 use Rattle.record.proofs.StandingLaws.{proper-true}
 use Rattle.path.proofs.SizesLaws.{in-range}
-use Rattle.card.specs.declared.Waiting.the-variants.{Extract}
+use Rattle.request.specs.declared.Waiting.the-variants.{Extract}
 use Rattle.card.specs.Calls.{listOf}
 use Rattle.card.proofs.BeginLaws.{accepted, extractable, least-proper, begin-refused, begin-done}
 use Rattle.card.proofs.Card.begin_extract.Statement.{statement}

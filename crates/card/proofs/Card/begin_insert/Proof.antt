@@ -3,7 +3,7 @@ use native.Mathlib.Omega.{arith}
 use mathlib.Core.Path.{sym, _∙_}
 use lib.ListN.{length}
 use Rattle.path.proofs.SizesLaws.{in-range}
-use Rattle.card.specs.declared.Waiting.the-variants.{Insert}
+use Rattle.request.specs.declared.Waiting.the-variants.{Insert}
 use Rattle.card.specs.Calls.{listOf}
 use Rattle.card.proofs.BeginLaws.{accepted, insertable, begin-refused, begin-done}
 use Rattle.card.proofs.Card.begin_insert.Statement.{statement}

@@ -1,7 +1,7 @@
 use borrow.Author.Needs.{needs}
 use mathlib.Core.Path.{_≡_}
 use lib.ListN.{length}
-use Rattle.card.specs.declared.Waiting.the-variants.{Delete}
+use Rattle.request.specs.declared.Waiting.the-variants.{Delete}
 use Rattle.card.proofs.FinishLaws.{ready, clock-fits, deletion-room}
 use Rattle.card.proofs.FinishedLaws.{delete-damaged, delete-done}
 use Rattle.card.proofs.Card.finish_delete.Statement.{statement}

@@ -2,7 +2,7 @@ use borrow.Author.Needs.{needs}
 use mathlib.Core.Path.{_≡_}
 use lib.ListN.{length}
 use Rattle.gather.proofs.RootLaws.{length-mapped}
-use Rattle.card.specs.declared.Waiting.the-variants.{Extract}
+use Rattle.request.specs.declared.Waiting.the-variants.{Extract}
 use Rattle.card.proofs.FinishLaws.{ready, clock-fits, extraction-room}
 use Rattle.card.proofs.FinishedLaws.{extract-damaged, extract-done}
 use Rattle.card.proofs.Card.finish_extract.Statement.{statement}

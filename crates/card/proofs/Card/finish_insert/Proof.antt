@@ -1,7 +1,7 @@
 use borrow.Author.Needs.{needs}
 use mathlib.Core.Path.{_≡_}
 use lib.ListN.{length}
-use Rattle.card.specs.declared.Waiting.the-variants.{Insert}
+use Rattle.request.specs.declared.Waiting.the-variants.{Insert}
 use Rattle.card.proofs.FinishLaws.{ready, clock-fits, insertion-room}
 use Rattle.card.proofs.FinishedLaws.{insert-damaged, insert-done}
 use Rattle.card.proofs.Card.finish_insert.Statement.{statement}

@@ -7,7 +7,8 @@ use Rattle.record.specs.declared.Record.{Record}
 use Rattle.path.specs.declared.list.Listed.{Listed}
 use Rattle.path.proofs.SizesLaws.{in-range}
 use Rattle.refusal.specs.Refusal.{firstGiven}
-use Rattle.card.specs.Tables.{requestRows, requestTable}
+use Rattle.request.specs.Tables.{requestRows}
+use Rattle.card.specs.Tables.{requestTable}
 use Rattle.card.specs.Calls.{beginTable}
 use Rattle.card.proofs.GoodLaws.{good}
 use Rattle.card.proofs.BeginLaws.{request-refused, room-short, room-enough, counts-few}

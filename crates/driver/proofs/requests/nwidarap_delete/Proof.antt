@@ -1,7 +1,7 @@
 -- `nwidarap_delete` meets its contract: a kind above 3 first, then as the card's own begin. Assumes nothing.
 use borrow.Author.Needs.{needs}
 use mathlib.Core.Path.{sym, _∙_}
-use Rattle.card.specs.declared.Waiting.the-variants.{Delete}
+use Rattle.request.specs.declared.Waiting.the-variants.{Delete}
 use Rattle.driver.proofs.DrivenLaws.{odd-begin, even-begin}
 use Rattle.driver.proofs.requests.nwidarap_delete.Statement.{statement}
 use Rattle.driver.proofs.requests.nwidarap_delete.Tie as tie

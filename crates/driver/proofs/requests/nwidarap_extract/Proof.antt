@@ -1,7 +1,7 @@
 -- `nwidarap_extract` meets its contract: a kind above 3 first, then as the card's own begin. Assumes nothing.
 use borrow.Author.Needs.{needs}
 use mathlib.Core.Path.{sym, _∙_}
-use Rattle.card.specs.declared.Waiting.the-variants.{Extract}
+use Rattle.request.specs.declared.Waiting.the-variants.{Extract}
 use Rattle.driver.proofs.DrivenLaws.{odd-begin, even-begin}
 use Rattle.driver.proofs.requests.nwidarap_extract.Statement.{statement}
 use Rattle.driver.proofs.requests.nwidarap_extract.Tie as tie

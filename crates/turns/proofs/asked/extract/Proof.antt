@@ -3,7 +3,7 @@ use borrow.Author.Needs.{needs}
 use native.Mathlib.Omega.{arith}
 use mathlib.Core.Path.{refl, sym}
 use lib.Seq.{length-take-le}
-use Rattle.card.specs.declared.Waiting.the-variants.{Extract as AskExtract}
+use Rattle.request.specs.declared.Waiting.the-variants.{Extract as AskExtract}
 use Rattle.lines.specs.declared.Line.the-variants.{Extract}
 use Rattle.turns.specs.Step.{stepOf}
 use Rattle.turns.proofs.AskedLaws.{not-sized, was-asked}

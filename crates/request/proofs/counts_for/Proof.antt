@@ -1,7 +1,7 @@
 use borrow.Author.Needs.{needs}
-use Rattle.card.specs.Calls.{countsFor}
-use Rattle.card.proofs.why.counts_for.Statement.{statement}
-use Rattle.card.proofs.why.counts_for.Tie as tie
+use Rattle.request.specs.Tables.{countsFor}
+use Rattle.request.proofs.counts_for.Statement.{statement}
+use Rattle.request.proofs.counts_for.Tie as tie
 
 enum-told : tie.Need-enum-told
 enum-told c = search needs

@@ -1,8 +1,8 @@
 use borrow.Author.Needs.{needs}
 use Rattle.refusal.specs.Refusal.{firstGiven}
-use Rattle.card.specs.Tables.{requestRows}
-use Rattle.card.proofs.request.why_request.Statement.{statement}
-use Rattle.card.proofs.request.why_request.Tie as tie
+use Rattle.request.specs.Tables.{requestRows}
+use Rattle.request.proofs.why_request.Statement.{statement}
+use Rattle.request.proofs.why_request.Tie as tie
 
 enum-told : tie.Need-enum-told
 enum-told c = search needs

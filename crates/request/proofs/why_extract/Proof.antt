@@ -1,8 +1,8 @@
 use borrow.Author.Tests.{eq-eqb, ne-eqb}
 use Rattle.refusal.specs.Refusal.{firstGiven}
-use Rattle.card.specs.Tables.{extractRows}
-use Rattle.card.proofs.request.why_extract.Statement.{statement}
-use Rattle.card.proofs.request.why_extract.Tie as tie
+use Rattle.request.specs.Tables.{extractRows}
+use Rattle.request.proofs.why_extract.Statement.{statement}
+use Rattle.request.proofs.why_extract.Tie as tie
 
 returns : tie.Need-returns
 unfolding firstGiven extractRows

@@ -6,9 +6,9 @@ use lib.Seq.{length-take-le}
 use Rattle.record.proofs.WordsLaws.{records-take}
 use Rattle.refusal.specs.Refusal.{firstGiven}
 use Rattle.root.specs.Root.{rootFull}
-use Rattle.card.specs.Tables.{insertRows}
-use Rattle.card.proofs.request.why_insert.Statement.{statement}
-use Rattle.card.proofs.request.why_insert.Tie as tie
+use Rattle.request.specs.Tables.{insertRows}
+use Rattle.request.proofs.why_insert.Statement.{statement}
+use Rattle.request.proofs.why_insert.Tie as tie
 
 returns : tie.Need-returns
 unfolding firstGiven insertRows

@@ -1,12 +1,15 @@
-// When a request is refused with a number from 4 to 10: document 01, "Refusal numbers". The root goes in as words, four to
-// a place, so that nothing copies 64 records.
+// A request: document 01, "A request, step by step". What waits on a card, when a request is refused with a number from 4 to
+// 10 ("Refusal numbers"), and how much room its list and its words need. The root goes in as words, four to a place, so that
+// nothing copies 64 records.
+// Stands on `record`, `path`, `refusal`, `root`.
 ghost use mathlib.Core.Path.{_≡_};
 ghost use Prim.Native.Nat.{_≤_, _*_};
 ghost use lib.ListN.{length};
 ghost use Rattle.record.specs.Words.{records};
+ghost use Rattle.path.specs.BucketList.{fetchedFor};
 ghost use Rattle.refusal.specs.Refusal.{firstGiven};
-ghost use Rattle.card.specs.Tables.{insertRows, extractRows, deleteRows, requestRows, waits};
-use crate::Waiting;
+ghost use Rattle.request.specs.Tables.{insertRows, extractRows, deleteRows, requestRows, waits, countsFor};
+use path::Listed;
 use path::Sizes;
 use path::leaves;
 use record::DUMMY_KEY;
@@ -21,7 +24,23 @@ use refusal::FULL;
 use refusal::OVERFLOW;
 use refusal::SPENT;
 
-pub(crate) fn is_waiting(waiting: Waiting) -> bool
+pub enum Waiting {
+    Nothing,
+    Insert {
+        key: u64,
+        value: u64,
+        label: Leaf,
+        first: Leaf,
+        second: Leaf,
+    },
+    Extract,
+    Delete {
+        label: Leaf,
+        stamp: Stamp,
+    },
+}
+
+pub fn is_waiting(waiting: Waiting) -> bool
     ensures { λ r. ⌜ r ≡ waits waiting ⌝ }
 {
     match waiting {
@@ -111,7 +130,7 @@ fn why_delete(sizes: Sizes, t: u64, c: u64, label: Leaf, stamp: Stamp) -> u64
 }
 
 // The number of the first refusal from 4 to 10 that a request meets, 0 for none.
-pub(crate) fn why_request(root: &[u64], sizes: Sizes, t: u64, c: u64, request: Waiting) -> u64
+pub fn why_request(root: &[u64], sizes: Sizes, t: u64, c: u64, request: Waiting) -> u64
     requires { ⌜ (sizes .h ≤ 16) × ((sizes .r ≤ 64) × (length (now root) ≡ 256)) ⌝ }
     ensures { λ r. ⌜ r ≡ firstGiven (requestRows sizes t c (records (now (root .entry))) request) ⌝ }
 {
@@ -127,4 +146,31 @@ pub(crate) fn why_request(root: &[u64], sizes: Sizes, t: u64, c: u64, request: W
         Waiting::Extract => why_extract(sizes, t, c),
         Waiting::Delete { label, stamp } => why_delete(sizes, t, c, label, stamp),
     }
+}
+
+// How many numbers the list of a request has.
+pub fn counts_for(sizes: Sizes, request: Waiting) -> Listed
+    requires { ⌜ (1 ≤ sizes .h) × (sizes .h ≤ 16) ⌝ }
+    ensures { λ r. ⌜ r ≡ countsFor (sizes .h) request ⌝ }
+{
+    match request {
+        Waiting::Nothing => Listed { whole: 0, least: 0 },
+        Waiting::Insert {
+            key: _,
+            value: _,
+            label: _,
+            first: _,
+            second: _,
+        } => sizes.pair_counts(),
+        Waiting::Extract => sizes.path_counts(),
+        Waiting::Delete { label: _, stamp: _ } => sizes.path_counts(),
+    }
+}
+
+// The words that are fetched for a list of so many numbers.
+pub fn fetched_for(counts: Listed, z: usize) -> usize
+    requires { ⌜ (z ≤ 5) × ((counts .whole ≤ 32) × (counts .least ≤ 32)) ⌝ }
+    ensures { λ n. ⌜ n ≡ fetchedFor z counts ⌝ }
+{
+    counts.whole * (RECORD_WORDS * (z + 1)) + counts.least * RECORD_WORDS
 }

@@ -1,7 +1,7 @@
 use borrow.Author.Needs.{needs}
-use Rattle.card.specs.Tables.{waits}
-use Rattle.card.proofs.request.is_waiting.Statement.{statement}
-use Rattle.card.proofs.request.is_waiting.Tie as tie
+use Rattle.request.specs.Tables.{waits}
+use Rattle.request.proofs.is_waiting.Statement.{statement}
+use Rattle.request.proofs.is_waiting.Tie as tie
 
 enum-told : tie.Need-enum-told
 enum-told c = search needs

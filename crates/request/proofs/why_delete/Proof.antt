@@ -3,9 +3,9 @@ use mathlib.Core.Path.{sym, ap, _∙_}
 use mathlib.Core.Bool.{not}
 use borrow.Author.Tests.{eq-eqb, ne-eqb, le-leb, lt-leb}
 use Rattle.refusal.specs.Refusal.{firstGiven}
-use Rattle.card.specs.Tables.{deleteRows}
-use Rattle.card.proofs.request.why_delete.Statement.{statement}
-use Rattle.card.proofs.request.why_delete.Tie as tie
+use Rattle.request.specs.Tables.{deleteRows}
+use Rattle.request.proofs.why_delete.Statement.{statement}
+use Rattle.request.proofs.why_delete.Tie as tie
 
 returns : tie.Need-returns
 unfolding firstGiven deleteRows

@@ -1,0 +1,67 @@
+-- When a request is refused: document 01, "Refusal numbers", numbers 4 to 10, in their order. A request that waits and one
+-- that is begun are judged by the same table, as if none waited; and how many numbers its list has. Assumes nothing.
+use Prim.Native.Nat.{ℕ, _/_}
+use mathlib.Core.Bool.{Bool, true, false, not, _||_}
+use mathlib.Core.List.{List, [], _∷_}
+use lib.Dec.{ltb, leb, eqb}
+use Rattle.record.specs.declared.Leaf.{Leaf}
+use Rattle.record.specs.declared.Stamp.{Stamp}
+use Rattle.record.specs.declared.Record.{Record}
+use Rattle.record.specs.Standing.{dummyKey, known}
+use Rattle.path.specs.declared.sizes.Sizes.{Sizes}
+use Rattle.path.specs.declared.list.Listed.{Listed as Counts}
+use Rattle.path.specs.Sizes.{leavesOf}
+use Rattle.path.specs.BucketList.{pairCounts, pathCounts}
+use Rattle.root.specs.Root.{rootFull}
+use Rattle.refusal.specs.Refusal.{Refusal, row}
+use Rattle.request.specs.declared.Waiting.{Waiting}
+use Rattle.request.specs.declared.Waiting.the-variants.{Nothing, Insert, Extract, Delete}
+
+-- "label N or more"
+abbrev pub badLabel : ℕ → Leaf → Bool
+badLabel n label = leb n (label .0)
+
+-- "an eviction leaf outside its half": "the first below N/2, the second from N/2 to N-1"
+abbrev pub badHalves : ℕ → Leaf → Leaf → Bool
+badHalves n first second = leb (n / 2) (first .0) || (ltb (second .0) (n / 2) || leb n (second .0))
+
+-- Insert, ExtractMin and Delete on a card of these sizes and counts
+module _ (s : Sizes) (t c : ℕ) where
+  unfoldable pub insertRows : List Record → ℕ → Leaf → Leaf → Leaf → List Refusal
+  insertRows root key label first second =
+      row 4 (eqb t (s .t))
+      ∷ row 5 (eqb key dummyKey)
+      ∷ row 6 (badLabel (leavesOf (s .h)) label || badHalves (leavesOf (s .h)) first second)
+      ∷ row 9 (eqb c (leavesOf (s .h)))
+      ∷ row 10 (rootFull (s .r) root)
+      ∷ []
+
+  unfoldable pub extractRows : List Refusal
+  extractRows = row 4 (eqb t (s .t)) ∷ row 8 (eqb c 0) ∷ []
+
+  unfoldable pub deleteRows : Leaf → Stamp → List Refusal
+  deleteRows label stamp =
+      row 4 (eqb t (s .t))
+      ∷ row 6 (badLabel (leavesOf (s .h)) label)
+      ∷ row 7 (not (known (record { 0 = t }) stamp))
+      ∷ []
+
+  unfoldable pub requestRows : List Record → Waiting → List Refusal
+  requestRows root Nothing = []
+  requestRows root (Insert key value label first second) = insertRows root key label first second
+  requestRows root Extract = extractRows
+  requestRows root (Delete label stamp) = deleteRows label stamp
+
+-- whether a request waits
+unfoldable pub waits : Waiting → Bool
+waits Nothing = false
+waits (Insert key value label first second) = true
+waits Extract = true
+waits (Delete label stamp) = true
+
+-- how many numbers its list has, whole and least-record only, by the height alone
+unfoldable pub countsFor : ℕ → Waiting → Counts
+countsFor h Nothing = record { whole = 0; least = 0 }
+countsFor h (Insert key value label first second) = pairCounts h
+countsFor h Extract = pathCounts h
+countsFor h (Delete label stamp) = pathCounts h
