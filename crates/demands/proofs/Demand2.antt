@@ -1,4 +1,5 @@
 -- Demand 2, proved: specs/Demand2.antt. Assumes nothing.
+use Prim.Native.Nat.{ℕ, _≤_}
 use mathlib.Core.Bool.{true}
 use mathlib.Core.List.{List, [], _∷_}
 use mathlib.Core.Logic.{⊎-elim}
@@ -8,7 +9,10 @@ use Rattle.path.specs.declared.sizes.Sizes.{Sizes}
 use Rattle.path.specs.Sizes.{inRange}
 use Rattle.path.specs.BucketList.{laid}
 use Rattle.card.specs.declared.Card.{Card}
+use Rattle.card.specs.Answers.{numberOf}
+use Rattle.request.specs.Tables.{waits}
 use Rattle.card.specs.Calls.{listOf}
+use Rattle.card.specs.Finish.{wordsNeeded}
 use Rattle.served.proofs.CallLaws.{start-ready}
 use Rattle.demands.specs.Queue.{Queue, emptyQueue, next}
 use Rattle.demands.specs.World.{World, freshWorld, Call, begin, finish, withdraw, findMin, step}
@@ -16,7 +20,7 @@ use Rattle.demands.specs.Says.{requestOf}
 use Rattle.demands.specs.Demand2.{Refuses, Answers, Run, ended, refused, answered, Demand2}
 use Rattle.demands.proofs.AnswerLaws.{queueOf}
 use Rattle.demands.proofs.StepLaws.{Holds, Plays, plays-begin, plays-withdraw, plays-min}
-use Rattle.demands.proofs.FinishLaws.{plays-finish}
+use Rattle.demands.proofs.FinishLaws.{plays-finish, finish-answers}
 
 -- ---- one call on a world that stands
 module _ (u : World) (q : Queue) (h : Holds u q) where
@@ -57,6 +61,12 @@ module _ (u : World) (q : Queue) (h : Holds u q) where
   plays c =
       subst (λ (p : Queue). Plays u p c (step u c)) same-queue
       (subst (λ (v : World). Plays v (queueOf (h .stands .live) (k .t)) c (step v c)) same-world (each c))
+
+  -- a finish is refused only where none waits, or with too few words
+  pub finishes : (words : List ℕ) → waits (k .waiting) ≡ true → wordsNeeded k ≤ length words → numberOf (step u (finish words) .answer) ≡ 0
+  finishes words busy room =
+      subst (λ (v : World). numberOf (step v (finish words) .answer) ≡ 0) same-world
+      (finish-answers k (u .tree) (h .places) (h .stands .live) (h .stands .ready) (h .word) words busy room)
 
 -- ---- a fresh world stands
 pub fresh-holds : (s : Sizes) → inRange s ≡ true → Holds (freshWorld s) emptyQueue

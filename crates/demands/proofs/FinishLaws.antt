@@ -20,7 +20,7 @@ use Rattle.rack.proofs.ListedLaws.{listed-laid, laid-passes}
 use Rattle.rack.proofs.RefusalLaws.{refuses-words}
 use Rattle.card.specs.declared.Card.{Card}
 use Rattle.card.specs.declared.Answer.the-variants.{Refused}
-use Rattle.card.specs.Answers.{orRefused}
+use Rattle.card.specs.Answers.{orRefused, numberOf}
 use Rattle.request.specs.Tables.{waits}
 use Rattle.card.specs.Calls.{listOf}
 use Rattle.card.specs.Finish.{leftBy, cardLeft, wordsNeeded, entryTable, finished}
@@ -177,12 +177,20 @@ module _ (k : Card) (tree places : List ℕ) (live : List Record) (r : Ready k t
           );
         }
 
-    finished-plays : Plays u q (finish words) (finishing u (rackNumber u words) (shown u words))
-    finished-plays =
+    finished-is : finishing u (rackNumber u words) (shown u words) ≡ done
+    finished-is =
         let number = rack-passes words room in
         let words-are = shown-is in
         let same : finishing u (rackNumber u words) (shown u words) ≡ finishing u 0 ws = λ i. finishing u (number i) (words-are i) in
-        subst (Plays u q (finish words)) (sym (same ∙ finishing-done)) done-plays
+        same ∙ finishing-done
+
+    finished-plays : Plays u q (finish words) (finishing u (rackNumber u words) (shown u words))
+    finished-plays = subst (Plays u q (finish words)) (sym finished-is) done-plays
+
+    -- with a request that waits and words enough, a finish is not refused
+    pub finish-answers : numberOf (step u (finish words) .answer) ≡ 0
+    unfolding step
+    finish-answers = ap (λ (o : Outcome). numberOf (o .answer)) finished-is ∙ finish-numbered k tree live r words busy
 
   pub plays-finish : (words : List ℕ) → Plays u q (finish words) (step u (finish words))
   unfolding step

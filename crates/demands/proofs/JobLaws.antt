@@ -29,14 +29,14 @@ use Rattle.demands.proofs.Demand2.{plays, fresh-holds}
 use Rattle.demands.proofs.SortedLaws.{extracts-sorted}
 
 -- a call that is not refused
-passed : {u : World} {q : Queue} {c : Call} {o : Outcome} → Plays u q c o → numberOf (o .answer) ≡ 0
+pub passed : {u : World} {q : Queue} {c : Call} {o : Outcome} → Plays u q c o → numberOf (o .answer) ≡ 0
     → Answers q (requestOf u c) o × Holds (o .world) (next q (requestOf u c))
 passed {u} {q} {c} {o} p e =
     ⊎-elim (λ (n : Refuses u o). absurd (n .some (sym (ap numberOf (n .given)) ∙ e)))
     (λ (a : Answers q (requestOf u c) o × Holds (o .world) (next q (requestOf u c))). a) (p .card)
 
 -- a begin that is not refused has its request wait
-waits-now : (u : World) {w : Waiting} (asked : Asked w) (lent : List ℕ) → numberOf (step u (begin asked lent) .answer) ≡ 0
+pub waits-now : (u : World) {w : Waiting} (asked : Asked w) (lent : List ℕ) → numberOf (step u (begin asked lent) .answer) ≡ 0
     → step u (begin asked lent) .world .card .waiting ≡ w
 unfolding step orRefused
 waits-now u {w} asked lent e =

@@ -16,7 +16,7 @@ use Rattle.demands.specs.Sorted.{placed, sorted, extracts, Distinct, mor
 
 -- ---- by reference
 module _ (r : Reference) (x : Event) where
-  refers-is : refersTo r x ≡ true → x .ref ≡ r
+  pub refers-is : refersTo r x ≡ true → x .ref ≡ r
   refers-is e =
       let (l, s) = simp and-eq-true-iff at e in
       let label = eqb-true _ _ l in
@@ -32,15 +32,15 @@ module _ (r : Reference) (x : Event) (es : List Event) where
   unfolding has
   has-own e = rw e
 
-  has-other : refersTo r x ≡ false → has r (x ∷ es) ≡ has r es
+  pub has-other : refersTo r x ≡ false → has r (x ∷ es) ≡ has r es
   unfolding has
   has-other e = rw e
 
-  out-own : refersTo r x ≡ true → takenOut r (x ∷ es) ≡ es
+  pub out-own : refersTo r x ≡ true → takenOut r (x ∷ es) ≡ es
   unfolding takenOut
   out-own e = rw e
 
-  out-other : refersTo r x ≡ false → takenOut r (x ∷ es) ≡ x ∷ takenOut r es
+  pub out-other : refersTo r x ≡ false → takenOut r (x ∷ es) ≡ x ∷ takenOut r es
   unfolding takenOut
   out-other e = rw e
 

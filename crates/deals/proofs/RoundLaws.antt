@@ -1,0 +1,302 @@
+-- One request on a world that holds, begun and finished: what the rack sees of it, and what it leaves. Assumes nothing.
+use Prim.Native.Nat.{ℕ, _+_, _<_, _≤_}
+use mathlib.Core.Bool.{true, false, true≢false}
+use mathlib.Core.List.{List, [], List·Memᴰ, Memᴰ·of-map}
+use mathlib.Core.Logic.{inl, inr}
+use mathlib.Core.Option.{some}
+use mathlib.Core.Path.{_≡_, refl, sym, ap, _∙_, subst}
+use mathlib.Mathlib.Data.Bool.Basic.{dichotomy}
+use native.Mathlib.Omega.{arith}
+use lib.Dec.{eqb}
+use lib.ListN.{length, length-map}
+use borrow.Author.Tests.{eqb-true, eqb-false, eq-eqb, ne-eqb}
+use Rattle.record.specs.Standing.{isProper}
+use Rattle.record.proofs.StandingLaws.{proper-true, known-below}
+use Rattle.record.proofs.ManyLaws.{every-each}
+use Rattle.path.specs.Sizes.{leavesOf}
+use Rattle.path.specs.declared.list.Listed.{Listed as Counts}
+use Rattle.path.specs.BucketList.{fetchedFor}
+use Rattle.path.proofs.SizesLaws.{in-range}
+use Rattle.refusal.specs.Refusal.{firstGiven}
+use Rattle.refusal.proofs.RefusalLaws.{none-given}
+use Rattle.judge.specs.BadParts.{stampOf}
+use Rattle.settle.specs.Left.{Left}
+use Rattle.rack.proofs.ListedLaws.{listed-laid}
+use Rattle.card.specs.declared.Card.{Card}
+use Rattle.card.specs.declared.Done.{Done}
+use Rattle.request.specs.declared.Waiting.{Waiting}
+use Rattle.request.specs.declared.Waiting.the-variants.{Nothing, Insert, Extract, Delete}
+use Rattle.card.specs.declared.Answer.{Answer}
+use Rattle.card.specs.declared.Answer.the-variants.{Started, Listed, Least, Withdrawn, Inserted, Extracted, Deleted, Refused}
+use Rattle.card.specs.Answers.{orRefused, numberOf}
+use Rattle.request.specs.Tables.{waits}
+use Rattle.card.specs.Tables.{requestTable}
+use Rattle.card.specs.BadCard.{badCard}
+use Rattle.request.specs.Tables.{countsFor}
+use Rattle.card.specs.Calls.{listOf, beginTable, minTable, withWaiting}
+use Rattle.card.specs.Finish.{leftBy, finishedBy, finished, wordsNeeded}
+use Rattle.card.proofs.BeginLaws.{accepted, counts-for, request-refused, room-enough}
+use Rattle.served.proofs.CallLaws.{ready-card}
+use Rattle.demands.specs.Queue.{Event, Queue, Request, leastOf, next, reply}
+use Rattle.demands.specs.World.{World, Asked, insert, extract, delete, Call, begin, finish, withdraw, findMin, Outcome, held, finishNumber, shown, step}
+use Rattle.demands.specs.Says.{eventOf, asks, says}
+use Rattle.demands.proofs.AnswerLaws.{least-told}
+use Rattle.demands.proofs.StepLaws.{Holds}
+use Rattle.demands.proofs.Demand2.{plays, finishes}
+use Rattle.demands.proofs.JobLaws.{passed, waits-now}
+use Rattle.deals.specs.Trace.{noList, storedBack, number, seen, askedFor}
+use Rattle.deals.specs.Sequences.{well}
+
+-- an answer that is well is no refusal
+well-numbered : (a : Answer) → well a ≡ true → numberOf a ≡ 0
+well-numbered Started e = refl
+well-numbered (Listed whole least) e = refl
+well-numbered (Least r) e = refl
+well-numbered Withdrawn e = refl
+well-numbered (Inserted label stamp words) e = refl
+well-numbered (Extracted r words) e = refl
+well-numbered (Deleted found words) e = refl
+well-numbered (Refused n) e = absurd (true≢false (sym e))
+
+pub passes-well : (u : World) (c : Call) → well (step u c .answer) ≡ true → number (step u c) ≡ 0
+passes-well u c e = well-numbered (step u c .answer) e
+
+-- ---- no call changes the sizes
+answered-sizes : (k : Card) (n : ℕ) (d : Done) → d .card .sizes ≡ k .sizes → orRefused k n d .card .sizes ≡ k .sizes
+unfolding orRefused
+answered-sizes k n d e = elim (dichotomy (eqb n 0)) [
+  | inr t ↦ rw t e
+  | inl f ↦ rw f
+]
+
+finished-sizes : (k : Card) (w : Waiting) (l : Left) → finishedBy k w l .card .sizes ≡ k .sizes
+unfolding finishedBy
+finished-sizes k Nothing l = refl
+finished-sizes k (Insert key value label first second) l = refl
+finished-sizes k Extract l = refl
+finished-sizes k (Delete label stamp) l = refl
+
+pub step-sizes : (u : World) (c : Call) → step u c .world .card .sizes ≡ u .card .sizes
+unfolding step
+step-sizes u (begin asked places) = answered-sizes (u .card) _ _ refl
+step-sizes u (finish words) = answered-sizes (u .card) _ (finished (u .card) (shown u words)) (finished-sizes (u .card) (u .card .waiting) (leftBy (u .card) (u .card .waiting) (shown u words)))
+step-sizes u withdraw = answered-sizes (u .card) _ _ refl
+step-sizes u findMin = answered-sizes (u .card) _ _ refl
+
+-- ---- a begin
+module _ (u : World) {w : Waiting} (asked : Asked w) (places : List ℕ) where
+  abbrev n : ℕ
+  n = firstGiven (beginTable (u .card) w (length places))
+
+  begin-number : number (step u (begin asked places)) ≡ n
+  unfolding step orRefused
+  begin-number = elim (dichotomy (eqb n 0)) [
+    | inl f ↦ rw f
+    | inr t ↦ rw (t, eqb-true n 0 t)
+  ]
+
+  module _ (e : number (step u (begin asked places)) ≡ 0) where
+    passes : eqb n 0 ≡ true
+    passes = eq-eqb n 0 (sym begin-number ∙ e)
+
+    -- the list that is then held, and the card
+    begin-held : held (step u (begin asked places) .world) ≡ listOf (u .card) w
+    unfolding step
+    begin-held = rw passes (listed-laid (listOf (u .card) w) places)
+
+    begin-card : step u (begin asked places) .world .card ≡ withWaiting (u .card) w
+    unfolding step orRefused
+    begin-card = rw passes
+
+    begin-seen : seen u (begin asked places) ≡ askedFor (listOf (u .card) w)
+    unfolding seen
+    begin-seen = rw e (ap askedFor begin-held)
+
+    begin-well : well (step u (begin asked places) .answer) ≡ true
+    unfolding step orRefused
+    begin-well = rw passes
+
+-- ---- a finish
+finished-idle : (k : Card) (w : Waiting) (l : Left) → numberOf (finishedBy k w l .answer) ≡ 0 → finishedBy k w l .card .waiting ≡ Nothing
+unfolding finishedBy
+finished-idle k Nothing l e = absurd (omega arith)
+finished-idle k (Insert key value label first second) l e = refl
+finished-idle k Extract l e = refl
+finished-idle k (Delete label stamp) l e = refl
+
+module _ (v : World) (words : List ℕ) (e : number (step v (finish words)) ≡ 0) where
+  finish-seen : seen v (finish words) ≡ storedBack (held v)
+  unfolding seen
+  finish-seen = rw e
+
+  finish-idle : step v (finish words) .world .card .waiting ≡ Nothing
+  unfolding step orRefused
+  finish-idle =
+      let m = finishNumber v (shown v words) in
+      elim (dichotomy (eqb m 0)) [
+        | inl f ↦ absurd (eqb-false m 0 f (rw f at e))
+        | inr t ↦ rw t (finished-idle (v .card) (v .card .waiting) (leftBy (v .card) (v .card .waiting) (shown v words)) (rw t at e))
+      ]
+
+-- ---- what holds between two requests
+pub record Idle (u : World) (q : Queue) : Type 0 where
+  pub holds : Holds u q
+  pub waiting : u .card .waiting ≡ Nothing
+
+module _ (u : World) (q : Queue) (i : Idle u q) where
+  pub idle-waits : waits (u .card .waiting) ≡ false
+  unfolding waits
+  idle-waits = rw (i .waiting)
+
+  pub idle-fine : badCard (u .card) ≡ false
+  idle-fine = ready-card (u .card) (u .tree) (i .holds .stands .live) (i .holds .stands .ready)
+
+  -- "the count c of live events"
+  pub idle-count : u .card .c ≡ length (q .events)
+  idle-count =
+      i .holds .stands .ready .heap .count ∙ sym (length-map (i .holds .stands .live) eventOf)
+      ∙ ap (λ (es : List Event). length es) (i .holds .stands .events)
+
+  -- the root's least record is the queue's least
+  pub idle-least : 1 ≤ u .card .c → leastOf (q .events) ≡ some (eventOf (u .card .least))
+  idle-least some-live =
+      ap leastOf (sym (i .holds .stands .events))
+      ∙ least-told (u .card) (u .tree) (i .holds .stands .live) (i .holds .stands .ready) some-live
+
+  -- live events have stamps below the count of finished requests
+  pub idle-known : (e : Event) → List·Memᴰ e (q .events) → e .ref .stamp < u .card .t
+  idle-known e m =
+      let stands = i .holds .stands in
+      let (y, inside, is) = Memᴰ·of-map eventOf (stands .live) (subst (List·Memᴰ e) (sym (stands .events)) m) in
+      let n = leavesOf (u .card .sizes .h) in
+      let proper = proper-true n (stampOf (u .card .t)) y (every-each (isProper n (stampOf (u .card .t))) (stands .ready .heap .good .proper) inside) in
+      omega (arith, known-below (stampOf (u .card .t)) (y .stamp) (proper .stamp), ap (λ (e : Event). e .ref .stamp) is)
+
+  -- a begin with room for its list is refused for its request alone
+  pub idle-begin : {w : Waiting} (asked : Asked w) (places : List ℕ)
+      → countsFor (u .card .sizes .h) w .whole + countsFor (u .card .sizes .h) w .least ≤ length places
+      → number (step u (begin asked places)) ≡ firstGiven (requestTable (u .card) w)
+  idle-begin {w} asked places room =
+      let m = firstGiven (requestTable (u .card) w) in
+      begin-number u asked places ∙ elim (dichotomy (eqb m 0)) [
+        | inl f ↦ request-refused (u .card) w (length places) idle-fine idle-waits (eqb-false m 0 f)
+        | inr t ↦ room-enough (u .card) w (length places) idle-fine idle-waits (eqb-true m 0 t) room ∙ sym (eqb-true m 0 t)
+      ]
+
+-- ---- FindMin
+module _ (u : World) where
+  abbrev m : ℕ
+  m = firstGiven (minTable (u .card))
+
+  look-number : number (step u findMin) ≡ m
+  unfolding step orRefused
+  look-number = elim (dichotomy (eqb m 0)) [
+    | inl f ↦ rw f
+    | inr t ↦ rw (t, eqb-true m 0 t)
+  ]
+
+  look-card : step u findMin .world .card ≡ u .card
+  unfolding step orRefused
+  look-card = elim (dichotomy (eqb m 0)) [
+    | inl f ↦ rw f
+    | inr t ↦ rw t
+  ]
+
+  pub look-well : number (step u findMin) ≡ 0 → well (step u findMin .answer) ≡ true
+  unfolding step orRefused
+  look-well e = rw (eq-eqb m 0 (sym look-number ∙ e))
+
+  pub look-seen : seen u findMin ≡ askedFor noList
+  unfolding seen
+  look-seen = refl
+
+  -- "it checks 13, 2 and 8 only"
+  pub look-some : number (step u findMin) ≡ 0 → u .card .c ≡ 0 → ⊥
+  unfolding minTable
+  look-some e =
+      let a = none-given 13 (badCard (u .card)) _ (omega arith) (sym look-number ∙ e) in
+      let b = none-given 2 (waits (u .card .waiting)) _ (omega arith) (a .1) in
+      let d = none-given 8 (eqb (u .card .c) 0) [] (omega arith) (b .1) in
+      eqb-false (u .card .c) 0 (d .0)
+
+  module _ (q : Queue) (i : Idle u q) where
+    pub look-passes : (u .card .c ≡ 0 → ⊥) → number (step u findMin) ≡ 0
+    unfolding minTable firstGiven
+    look-passes h = look-number ∙ rw (idle-fine u q i, idle-waits u q i, ne-eqb (u .card .c) 0 h)
+
+    pub look-idle : number (step u findMin) ≡ 0 → Idle (step u findMin .world) q
+    look-idle e =
+        record {
+          holds = passed (plays u q (i .holds) findMin) e .1;
+          waiting = ap (λ (k : Card). k .waiting) look-card ∙ i .waiting;
+        }
+
+-- ---- a request, begun and finished
+abbrev pub begunBy : World → {w : Waiting} → Asked w → List ℕ → World
+begunBy u asked places = step u (begin asked places) .world
+
+abbrev pub doneBy : World → {w : Waiting} → Asked w → (places words : List ℕ) → Outcome
+doneBy u asked places words = step (begunBy u asked places) (finish words)
+
+module _ (u : World) (q : Queue) {w : Waiting} (asked : Asked w) (places words : List ℕ) where
+  abbrev begun : World
+  begun = begunBy u asked places
+
+  abbrev done : Outcome
+  done = doneBy u asked places words
+
+  pub record Round : Type 0 where
+    pub before : Idle u q
+    -- neither is refused
+    pub request : firstGiven (requestTable (u .card) w) ≡ 0
+    pub begins : well (step u (begin asked places) .answer) ≡ true
+    pub numbered : number done ≡ 0
+    -- what the rack sees
+    pub first : seen u (begin asked places) ≡ askedFor (listOf (u .card) w)
+    pub second : seen begun (finish words) ≡ storedBack (listOf (u .card) w)
+    -- what is answered and left
+    pub said : says (done .answer) ≡ reply q (asks w)
+    pub after : Idle (done .world) (next q (asks w))
+    pub sizes : done .world .card .sizes ≡ u .card .sizes
+
+  module _ (i : Idle u q) (b : number (step u (begin asked places)) ≡ 0) where
+    abbrev begun-holds : Holds begun q
+    begun-holds = passed (plays u q (i .holds) (begin asked places)) b .1
+
+    now-waits : begun .card .waiting ≡ w
+    now-waits = waits-now u asked places b
+
+    pub round : number done ≡ 0 → Round
+    round f =
+        let answered = passed (plays begun q begun-holds (finish words)) f in
+        let is : asks (begun .card .waiting) ≡ asks w = ap asks now-waits in
+        record {
+          before = i;
+          request = accepted (u .card) w (length places) (sym (begin-number u asked places) ∙ b) .request;
+          begins = begin-well u asked places b;
+          numbered = f;
+          first = begin-seen u asked places b;
+          second = finish-seen begun words f ∙ ap storedBack (begin-held u asked places b);
+          said = answered .0 .same ∙ ap (reply q) is;
+          after = record {
+            holds = subst (λ (r : Request). Holds (done .world) (next q r)) is (answered .1);
+            waiting = finish-idle begun words f;
+          };
+          sizes = step-sizes begun (finish words) ∙ step-sizes u (begin asked places);
+        }
+
+    -- with words enough it is finished
+    asked-waits : {x : Waiting} → Asked x → waits x ≡ true
+    unfolding waits
+    asked-waits (insert word) = refl
+    asked-waits extract = refl
+    asked-waits delete = refl
+
+    pub round-passes : fetchedFor (u .card .sizes .z) (countsFor (u .card .sizes .h) w) ≤ length words → Round
+    round-passes lent =
+        let k = withWaiting (u .card) w in
+        let height = in-range (u .card .sizes) (i .holds .stands .ready .heap .sizes) .tree .height .0 in
+        let enough : wordsNeeded k ≤ length words =
+        subst (λ (m : Counts). fetchedFor (u .card .sizes .z) m ≤ length words) (sym (counts-for k w height)) lent in
+        round (finishes begun q begun-holds words (ap waits now-waits ∙ asked-waits asked)
+        (subst (λ (k : Card). wordsNeeded k ≤ length words) (sym (begin-card u asked places b)) enough))

@@ -1,0 +1,23 @@
+-- `lender::begin_delete` meets its contract: the law WithTwoAndSlice at the theorem of the call on a lent card. Assumes nothing.
+use Rattle.request.specs.declared.Waiting.the-variants.{Delete}
+use Rattle.card.specs.Calls.{Begins}
+use Rattle.shapes.proofs.Arg.{a-Leaf, a-Stamp}
+use contract.Running.{givenOf, tables, tablesOf}
+use denote.Triple.Spec.{tripleOf}
+use denote.Triple.Table.{entered, cited}
+use Rattle.loans.proofs.WithTwoAndSlice.{kept}
+use Rattle.lent.proofs.begin_delete as call
+use Rattle.lent.proofs.begin_delete.Symbol as call-def
+use Rattle.lent.proofs.begin_delete.Met as call-thm
+use Rattle.lender.proofs.begin_delete.Key.{name as #lender·begin-delete}
+use Rattle.lender.proofs.begin_delete as f
+use Rattle.lender.proofs.begin_delete.Statement as stated
+use Rattle.lender.proofs.begin_delete.Code as code
+
+pub begin-delete-spec : {M : Type 1} → stated.statement M
+unfolding code.routine tablesOf
+begin-delete-spec 𝓤 H 𝓜 𝓖 𝓡 =
+    entered 𝓤 H (tripleOf 𝓤 H (𝓖 .A) f.signature (f.spec 𝓤 H (𝓖 .A) (𝓜 .mem) (𝓡 .run)))
+    (tables 𝓤 H 𝓜 𝓡 code.env .C) (tables 𝓤 H 𝓜 𝓡 code.env .Λ) #lender·begin-delete code.function (code.unfolded 𝓤 H 𝓜 𝓡)
+    (kept a-Leaf a-Stamp 𝓤 (λ k label stamp ys zs d. Begins k (Delete label stamp) ys zs d) H (𝓖 .A) (givenOf 𝓤 H 𝓜 𝓖) call-def.name (tablesOf 𝓤 H 𝓜 (tables 𝓤 H 𝓜 𝓡 code.env))
+    (cited 𝓤 H (tripleOf 𝓤 H (𝓖 .A) call.signature (call.spec 𝓤 H (𝓖 .A) (𝓜 .mem) (𝓡 .run))) 𝓜 𝓡 code.env call-def.name call-def.routine code.calls-lent·begin-delete (call-thm.met 𝓤 H 𝓜 𝓖 𝓡)))

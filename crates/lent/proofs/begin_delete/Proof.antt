@@ -1,0 +1,23 @@
+-- `lent::begin_delete` meets its contract: the law OfTwoAndSlice at the theorem of the call by value. Assumes nothing.
+use Rattle.request.specs.declared.Waiting.the-variants.{Delete}
+use Rattle.card.specs.Calls.{Begins}
+use Rattle.shapes.proofs.Arg.{a-Leaf, a-Stamp}
+use contract.Running.{givenOf, tables, tablesOf}
+use denote.Triple.Spec.{tripleOf}
+use denote.Triple.Table.{entered, cited}
+use Rattle.shapes.proofs.OfTwoAndSlice.{kept}
+use Rattle.card.proofs.Card.begin_delete as call
+use Rattle.card.proofs.Card.begin_delete.Symbol as call-def
+use Rattle.card.proofs.Card.begin_delete.Met as call-thm
+use Rattle.lent.proofs.begin_delete.Key.{name as #lent·begin-delete}
+use Rattle.lent.proofs.begin_delete as f
+use Rattle.lent.proofs.begin_delete.Statement as stated
+use Rattle.lent.proofs.begin_delete.Code as code
+
+pub begin-delete-spec : {M : Type 1} → stated.statement M
+unfolding code.routine tablesOf
+begin-delete-spec 𝓤 H 𝓜 𝓖 𝓡 =
+    entered 𝓤 H (tripleOf 𝓤 H (𝓖 .A) f.signature (f.spec 𝓤 H (𝓖 .A) (𝓜 .mem) (𝓡 .run)))
+    (tables 𝓤 H 𝓜 𝓡 code.env .C) (tables 𝓤 H 𝓜 𝓡 code.env .Λ) #lent·begin-delete code.function (code.unfolded 𝓤 H 𝓜 𝓡)
+    (kept a-Leaf a-Stamp 𝓤 (λ k label stamp ys zs d. Begins k (Delete label stamp) ys zs d) H (𝓖 .A) (givenOf 𝓤 H 𝓜 𝓖) call-def.name (tablesOf 𝓤 H 𝓜 (tables 𝓤 H 𝓜 𝓡 code.env))
+    (cited 𝓤 H (tripleOf 𝓤 H (𝓖 .A) call.signature (call.spec 𝓤 H (𝓖 .A) (𝓜 .mem) (𝓡 .run))) 𝓜 𝓡 code.env call-def.name call-def.routine code.calls-card·Card·begin-delete (call-thm.met 𝓤 H 𝓜 𝓖 𝓡)))

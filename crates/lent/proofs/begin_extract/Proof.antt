@@ -1,0 +1,22 @@
+-- `lent::begin_extract` meets its contract: the law OfCardAndSlice at the theorem of the call by value. Assumes nothing.
+use Rattle.request.specs.declared.Waiting.the-variants.{Extract}
+use Rattle.card.specs.Calls.{Begins}
+use contract.Running.{givenOf, tables, tablesOf}
+use denote.Triple.Spec.{tripleOf}
+use denote.Triple.Table.{entered, cited}
+use Rattle.shapes.proofs.OfCardAndSlice.{kept}
+use Rattle.card.proofs.Card.begin_extract as call
+use Rattle.card.proofs.Card.begin_extract.Symbol as call-def
+use Rattle.card.proofs.Card.begin_extract.Met as call-thm
+use Rattle.lent.proofs.begin_extract.Key.{name as #lent·begin-extract}
+use Rattle.lent.proofs.begin_extract as f
+use Rattle.lent.proofs.begin_extract.Statement as stated
+use Rattle.lent.proofs.begin_extract.Code as code
+
+pub begin-extract-spec : {M : Type 1} → stated.statement M
+unfolding code.routine tablesOf
+begin-extract-spec 𝓤 H 𝓜 𝓖 𝓡 =
+    entered 𝓤 H (tripleOf 𝓤 H (𝓖 .A) f.signature (f.spec 𝓤 H (𝓖 .A) (𝓜 .mem) (𝓡 .run)))
+    (tables 𝓤 H 𝓜 𝓡 code.env .C) (tables 𝓤 H 𝓜 𝓡 code.env .Λ) #lent·begin-extract code.function (code.unfolded 𝓤 H 𝓜 𝓡)
+    (kept 𝓤 (λ k ys zs d. Begins k Extract ys zs d) H (𝓖 .A) (givenOf 𝓤 H 𝓜 𝓖) call-def.name (tablesOf 𝓤 H 𝓜 (tables 𝓤 H 𝓜 𝓡 code.env))
+    (cited 𝓤 H (tripleOf 𝓤 H (𝓖 .A) call.signature (call.spec 𝓤 H (𝓖 .A) (𝓜 .mem) (𝓡 .run))) 𝓜 𝓡 code.env call-def.name call-def.routine code.calls-card·Card·begin-extract (call-thm.met 𝓤 H 𝓜 𝓖 𝓡)))

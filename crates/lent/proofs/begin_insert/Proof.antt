@@ -1,0 +1,23 @@
+-- `lent::begin_insert` meets its contract: the law OfFiveAndSlice at the theorem of the call by value. Assumes nothing.
+use Rattle.request.specs.declared.Waiting.the-variants.{Insert}
+use Rattle.card.specs.Calls.{Begins}
+use Rattle.shapes.proofs.Arg.{a-u64, a-Leaf}
+use contract.Running.{givenOf, tables, tablesOf}
+use denote.Triple.Spec.{tripleOf}
+use denote.Triple.Table.{entered, cited}
+use Rattle.shapes.proofs.OfFiveAndSlice.{kept}
+use Rattle.card.proofs.Card.begin_insert as call
+use Rattle.card.proofs.Card.begin_insert.Symbol as call-def
+use Rattle.card.proofs.Card.begin_insert.Met as call-thm
+use Rattle.lent.proofs.begin_insert.Key.{name as #lent·begin-insert}
+use Rattle.lent.proofs.begin_insert as f
+use Rattle.lent.proofs.begin_insert.Statement as stated
+use Rattle.lent.proofs.begin_insert.Code as code
+
+pub begin-insert-spec : {M : Type 1} → stated.statement M
+unfolding code.routine tablesOf
+begin-insert-spec 𝓤 H 𝓜 𝓖 𝓡 =
+    entered 𝓤 H (tripleOf 𝓤 H (𝓖 .A) f.signature (f.spec 𝓤 H (𝓖 .A) (𝓜 .mem) (𝓡 .run)))
+    (tables 𝓤 H 𝓜 𝓡 code.env .C) (tables 𝓤 H 𝓜 𝓡 code.env .Λ) #lent·begin-insert code.function (code.unfolded 𝓤 H 𝓜 𝓡)
+    (kept a-u64 a-u64 a-Leaf a-Leaf a-Leaf 𝓤 (λ k key value label first second ys zs d. Begins k (Insert key value label first second) ys zs d) H (𝓖 .A) (givenOf 𝓤 H 𝓜 𝓖) call-def.name (tablesOf 𝓤 H 𝓜 (tables 𝓤 H 𝓜 𝓡 code.env))
+    (cited 𝓤 H (tripleOf 𝓤 H (𝓖 .A) call.signature (call.spec 𝓤 H (𝓖 .A) (𝓜 .mem) (𝓡 .run))) 𝓜 𝓡 code.env call-def.name call-def.routine code.calls-card·Card·begin-insert (call-thm.met 𝓤 H 𝓜 𝓖 𝓡)))

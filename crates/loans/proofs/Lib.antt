@@ -1,0 +1,7 @@
+-- One law for each shape of a call to which a card is lent.
+pub mod Laid
+pub mod With
+pub mod WithSlice
+pub mod WithTwoAndSlice
+pub mod WithFour
+pub mod WithFiveAndSlice

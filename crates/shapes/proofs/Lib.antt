@@ -1,0 +1,7 @@
+-- One law for each shape of a function to which a card is lent.
+pub mod Arg
+pub mod OfCard
+pub mod OfCardAndSlice
+pub mod OfTwoAndSlice
+pub mod OfFour
+pub mod OfFiveAndSlice
