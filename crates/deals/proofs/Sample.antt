@@ -1,6 +1,6 @@
--- Two pairs of sequences to which demand 3 applies, worked out by the very steps that it is stated over. In the first pair the
--- dealing exchanges two labels, and the rack sees the same to the end. In the other the labels that are dealt lead to an Overflow,
--- and the rack sees the same until then. Assumes nothing.
+-- Two pairs of sequences to which demand 3 applies, worked out by the very steps that it is stated over. In both the dealing moves
+-- labels, and the rack sees the same to the end. With one slot less in the root the labels that are dealt lead the other pair's
+-- second to an Overflow, and the rack sees the same until then. Assumes nothing.
 use Prim.Native.Nat.{ℕ, _<_, _≤_}
 use mathlib.Core.List.{List, [], _∷_, map, flatMap}
 use mathlib.Core.Path.{_≡_, refl}
@@ -118,8 +118,9 @@ bothShow =
     ∷ []
 
 -- ---- labels that overflow
--- With one slot in the root. The first takes out its second event, the second its third, which so gets the label 3; its first two
--- have 0, the second of them stays in the root, and the third overflows at its begin. Its finish is then refused, too.
+-- The first takes out its second event, the second its third, which so gets the label 3, and its first two have 0. With two slots in
+-- the root the rack sees the same to the end, though the roots differ. With one the second event fills the root, and the third
+-- overflows at its begin; its finish is then refused, too.
 abbrev three : List Call
 three =
     inserts 7 70 0 1 2 (omega arith) ∷ ends ∷ inserts 5 50 3 1 2 (omega arith) ∷ ends ∷ inserts 6 60 0 1 2 (omega arith) ∷ ends ∷ asks extract ∷ ends ∷ []
@@ -162,6 +163,7 @@ foundOf o = getD (valuesOf (o .answer)) 4 0
 
 worked :
     Worked (sizesOf 2 1 2 16) one two (3 ∷ 0 ∷ []) bothShow bothShow 9
+    × Worked (sizesOf 2 1 2 16) three four (0 ∷ 0 ∷ 3 ∷ []) threeShows threeShows 8
     × Worked (sizesOf 2 1 1 16) three four (0 ∷ 0 ∷ 3 ∷ []) threeShows fourShows 4
     × (map lists (trace (freshWorld (sizesOf 2 1 2 16)) twice) ≡ twiceShows)
     × (map foundOf (outcomes (freshWorld (sizesOf 2 1 2 16)) twice) ≡ 0 ∷ 0 ∷ 0 ∷ 1 ∷ 0 ∷ 0 ∷ [])
@@ -181,6 +183,18 @@ worked =
           clear = refl;
           kinds = refl;
           valid = lent-enough 2 _ (key 1 (omega arith)) (lent-enough 2 _ (key 2 (omega arith)) (look (lent-enough 2 _ tt (lent-enough 2 _ refl none))));
+        };
+        dealing = refl;
+        shows-first = refl;
+        shows-second = refl;
+        overflow = refl;
+      },
+      record {
+        twins = record {
+          sizes = refl;
+          clear = refl;
+          kinds = refl;
+          valid = lent-enough 2 _ (key 7 (omega arith)) (lent-enough 2 _ (key 6 (omega arith)) (lent-enough 2 _ (key 5 (omega arith)) (lent-enough 2 _ tt none)));
         };
         dealing = refl;
         shows-first = refl;

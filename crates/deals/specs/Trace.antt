@@ -25,10 +25,10 @@ askedFor l = record { asked = l; stored = [] }
 abbrev pub storedBack : BucketList → Seen
 storedBack l = record { asked = noList; stored = l .whole }
 
--- a call that is refused shows nothing, and "FindMin answers .. with an empty list"
 abbrev pub number : Outcome → ℕ
 number o = numberOf (o .answer)
 
+-- a call that is refused shows nothing, and "FindMin answers .. with an empty list"
 unfoldable pub seen : World → Call → Seen
 seen u (begin asked places) = askedFor (unless (number (step u (begin asked places))) (held (step u (begin asked places) .world)) noList)
 seen u (finish words) = storedBack (unless (number (step u (finish words))) (held u) noList)
