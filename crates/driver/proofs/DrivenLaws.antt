@@ -23,7 +23,7 @@ use Rattle.rack.specs.Answers.{answerNumber}
 use Rattle.rack.specs.Promises.{Answers}
 use Rattle.rack.specs.Refusals.{afterwards}
 use Rattle.told.specs.Told.{Called, Settled, Zeroed}
-use Rattle.told.proofs.ToldLaws.{called, card-left, one-call}
+use Rattle.told.proofs.ToldLaws.{called, card-left}
 use Rattle.driver.specs.Driven.{onCard, BeginsAt, leftOn, FinishesAt, Racked}
 
 -- ---- the kind comes first
@@ -104,25 +104,3 @@ image-called k table done d told n held′ told′ a c =
     let e = even-card (imageOf k) table (image-even k) ∙ ap (λ (x : Card). firstGiven (table x)) (card-image k) in
     let f : held′ ≡ afterwards (firstGiven (table k)) (imageOf (done k .card)) (imageOf k) = rw (e, card-image k) at (c .card) in
     (c .number ∙ e ∙ sym (a .numbered), f ∙ card-left k (firstGiven (table k)) (done k) d (a .whole))
-
--- ---- a promise leaves one number, one card, one answer and one content of each lent slice
-pub one-begin :
-    (w : Waiting) (held told list : List ℕ) (n m : ℕ) (held′ told′ list′ held″ told″ list″ : List ℕ)
-    → BeginsAt w held told list n held′ told′ list′ → BeginsAt w held told list m held″ told″ list″
-    → ((n ≡ m) × ((held′ ≡ held″) × (told′ ≡ told″))) × (list′ ≡ list″)
-one-begin w held told list n m held′ told′ list′ held″ told″ list″ p q =
-    (one-call _ _ _ _ _ _ _ _ _ _ (p .call) (q .call), p .places ∙ sym (q .places))
-
-pub one-finish :
-    (held told before : List ℕ) (n m : ℕ) (held′ told′ after held″ told″ later : List ℕ)
-    → FinishesAt held told before n held′ told′ after → FinishesAt held told before m held″ told″ later
-    → ((n ≡ m) × ((held′ ≡ held″) × (told′ ≡ told″))) × (after ≡ later)
-one-finish held told before n m held′ told′ after held″ told″ later p q =
-    (one-call _ _ _ _ _ _ _ _ _ _ (p .call) (q .call), p .words ∙ sym (q .words))
-
-pub one-rack :
-    (refusal : ℕ) (due told before : List ℕ) (n m : ℕ) (told′ after told″ later : List ℕ)
-    → Racked refusal due told before n told′ after → Racked refusal due told before m told″ later
-    → (n ≡ m) × ((told′ ≡ told″) × (after ≡ later))
-one-rack refusal due told before n m told′ after told″ later p q =
-    (p .call .number ∙ sym (q .call .number), (p .call .answer ∙ sym (q .call .answer), p .lent ∙ sym (q .lent)))

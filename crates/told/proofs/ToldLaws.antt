@@ -1,4 +1,4 @@
--- What a driver is told is what the card's own call came to, and it leaves one outcome. Assumes nothing.
+-- What a driver is told is what the card's own call came to. Assumes nothing.
 use Prim.Native.Nat.{ℕ, zero, suc}
 use mathlib.Core.List.{List}
 use mathlib.Core.Path.{_≡_, refl, sym, ap, _∙_}
@@ -59,11 +59,3 @@ card-left k zero done d e = ap (λ (x : Done). imageOf (x .card)) (sym e)
 card-left k (suc number) done d e =
     let f : d ≡ refused k (suc number) = e ∙ rw (ne-eqb (suc number) 0 (λ z. omega arith)) in
     ap (λ (x : Done). imageOf (x .card)) (sym f)
-
--- ---- a promise leaves one number, one card, one answer and one content of the lent slice
-pub one-call :
-    (refusal : ℕ) (done : Done) (held told : List ℕ) (n m : ℕ) (held′ told′ held″ told″ : List ℕ)
-    → Called refusal done held told n held′ told′ → Called refusal done held told m held″ told″
-    → (n ≡ m) × ((held′ ≡ held″) × (told′ ≡ told″))
-one-call refusal done held told n m held′ told′ held″ told″ p q =
-    (p .number ∙ sym (q .number), (p .card ∙ sym (q .card), p .answer ∙ sym (q .answer)))

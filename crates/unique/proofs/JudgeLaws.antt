@@ -1,0 +1,117 @@
+-- The judgements on a request, a card and what was fetched, and a finish on the parts of a card, leave one outcome.
+-- Assumes nothing.
+use mathlib.Core.Path.{refl}
+use Rattle.unique.specs.One.{Determines}
+use Rattle.unique.proofs.OneLaws.{one-answer}
+use Rattle.request.proofs.is_waiting.Kinds as is-waiting-kinds
+use Rattle.request.proofs.is_waiting.Reads as is-waiting
+use Rattle.request.proofs.why_request.Kinds as why-request-kinds
+use Rattle.request.proofs.why_request.Reads as why-request
+use Rattle.request.proofs.counts_for.Kinds as counts-for-kinds
+use Rattle.request.proofs.counts_for.Reads as counts-for
+use Rattle.request.proofs.fetched_for.Kinds as fetched-for-kinds
+use Rattle.request.proofs.fetched_for.Reads as fetched-for
+use Rattle.root.proofs.slots_fine.Kinds as slots-fine-kinds
+use Rattle.root.proofs.slots_fine.Reads as slots-fine
+use Rattle.root.proofs.all_dummies.Kinds as all-dummies-kinds
+use Rattle.root.proofs.all_dummies.Reads as all-dummies
+use Rattle.root.proofs.all_real.Kinds as all-real-kinds
+use Rattle.root.proofs.all_real.Reads as all-real
+use Rattle.judge.proofs.are_parts_bad.Kinds as are-parts-bad-kinds
+use Rattle.judge.proofs.are_parts_bad.Reads as are-parts-bad
+use Rattle.damage.proofs.path_damaged.Kinds as path-damaged-kinds
+use Rattle.damage.proofs.path_damaged.Reads as path-damaged
+use Rattle.damage.proofs.pair_damaged.Kinds as pair-damaged-kinds
+use Rattle.damage.proofs.pair_damaged.Reads as pair-damaged
+use Rattle.settle.proofs.way_words.Kinds as way-words-kinds
+use Rattle.settle.proofs.way_words.Reads as way-words
+use Rattle.settle.proofs.path_words.Kinds as path-words-kinds
+use Rattle.settle.proofs.path_words.Reads as path-words
+use Rattle.settle.proofs.unsettled.Kinds as unsettled-kinds
+use Rattle.settle.proofs.unsettled.Reads as unsettled
+use Rattle.settle.proofs.comes_out_bad.Kinds as comes-out-bad-kinds
+use Rattle.settle.proofs.comes_out_bad.Reads as comes-out-bad
+use Rattle.removal.proofs.settle_removal.Kinds as settle-removal-kinds
+use Rattle.removal.proofs.settle_removal.Reads as settle-removal
+use Rattle.insertion.proofs.settle_insertion.Kinds as settle-insertion-kinds
+use Rattle.insertion.proofs.settle_insertion.Reads as settle-insertion
+
+pub one-is-waiting : Determines 0 is-waiting-kinds.ps is-waiting-kinds.r is-waiting.Asked is-waiting.Learnt
+one-is-waiting =
+    one-answer 0 is-waiting-kinds.ps is-waiting-kinds.r is-waiting.Asked is-waiting.Learnt _ _
+    (λ κs a ok x xs f p. (p, refl))
+
+pub one-why-request : Determines 1 why-request-kinds.ps why-request-kinds.r why-request.Asked why-request.Learnt
+one-why-request =
+    one-answer 1 why-request-kinds.ps why-request-kinds.r why-request.Asked why-request.Learnt _ _
+    (λ κs a ok x xs f p. (p, refl))
+
+pub one-counts-for : Determines 0 counts-for-kinds.ps counts-for-kinds.r counts-for.Asked counts-for.Learnt
+one-counts-for =
+    one-answer 0 counts-for-kinds.ps counts-for-kinds.r counts-for.Asked counts-for.Learnt _ _
+    (λ κs a ok x xs f p. (p, refl))
+
+pub one-fetched-for : Determines 0 fetched-for-kinds.ps fetched-for-kinds.r fetched-for.Asked fetched-for.Learnt
+one-fetched-for =
+    one-answer 0 fetched-for-kinds.ps fetched-for-kinds.r fetched-for.Asked fetched-for.Learnt _ _
+    (λ κs a ok x xs f p. (p, refl))
+
+pub one-slots-fine : Determines 1 slots-fine-kinds.ps slots-fine-kinds.r slots-fine.Asked slots-fine.Learnt
+one-slots-fine =
+    one-answer 1 slots-fine-kinds.ps slots-fine-kinds.r slots-fine.Asked slots-fine.Learnt _ _
+    (λ κs a ok x xs f p. (p, refl))
+
+pub one-all-dummies : Determines 1 all-dummies-kinds.ps all-dummies-kinds.r all-dummies.Asked all-dummies.Learnt
+one-all-dummies =
+    one-answer 1 all-dummies-kinds.ps all-dummies-kinds.r all-dummies.Asked all-dummies.Learnt _ _
+    (λ κs a ok x xs f p. (p, refl))
+
+pub one-all-real : Determines 1 all-real-kinds.ps all-real-kinds.r all-real.Asked all-real.Learnt
+one-all-real =
+    one-answer 1 all-real-kinds.ps all-real-kinds.r all-real.Asked all-real.Learnt _ _
+    (λ κs a ok x xs f p. (p, refl))
+
+pub one-are-parts-bad : Determines 1 are-parts-bad-kinds.ps are-parts-bad-kinds.r are-parts-bad.Asked are-parts-bad.Learnt
+one-are-parts-bad =
+    one-answer 1 are-parts-bad-kinds.ps are-parts-bad-kinds.r are-parts-bad.Asked are-parts-bad.Learnt _ _
+    (λ κs a ok x xs f p. (p, refl))
+
+pub one-path-damaged : Determines 3 path-damaged-kinds.ps path-damaged-kinds.r path-damaged.Asked path-damaged.Learnt
+one-path-damaged =
+    one-answer 3 path-damaged-kinds.ps path-damaged-kinds.r path-damaged.Asked path-damaged.Learnt _ _
+    (λ κs a ok x xs f p. (p, refl))
+
+pub one-pair-damaged : Determines 5 pair-damaged-kinds.ps pair-damaged-kinds.r pair-damaged.Asked pair-damaged.Learnt
+one-pair-damaged =
+    one-answer 5 pair-damaged-kinds.ps pair-damaged-kinds.r pair-damaged.Asked pair-damaged.Learnt _ _
+    (λ κs a ok x xs f p. (p, refl))
+
+pub one-way-words : Determines 0 way-words-kinds.ps way-words-kinds.r way-words.Asked way-words.Learnt
+one-way-words =
+    one-answer 0 way-words-kinds.ps way-words-kinds.r way-words.Asked way-words.Learnt _ _
+    (λ κs a ok x xs f p. (p .0, refl))
+
+pub one-path-words : Determines 0 path-words-kinds.ps path-words-kinds.r path-words.Asked path-words.Learnt
+one-path-words =
+    one-answer 0 path-words-kinds.ps path-words-kinds.r path-words.Asked path-words.Learnt _ _
+    (λ κs a ok x xs f p. (p .0, refl))
+
+pub one-unsettled : Determines 0 unsettled-kinds.ps unsettled-kinds.r unsettled.Asked unsettled.Learnt
+one-unsettled =
+    one-answer 0 unsettled-kinds.ps unsettled-kinds.r unsettled.Asked unsettled.Learnt _ _
+    (λ κs a ok x xs f p. (p, refl))
+
+pub one-comes-out-bad : Determines 0 comes-out-bad-kinds.ps comes-out-bad-kinds.r comes-out-bad.Asked comes-out-bad.Learnt
+one-comes-out-bad =
+    one-answer 0 comes-out-bad-kinds.ps comes-out-bad-kinds.r comes-out-bad.Asked comes-out-bad.Learnt _ _
+    (λ κs a ok x xs f p. (p, refl))
+
+pub one-settle-removal : Determines 1 settle-removal-kinds.ps settle-removal-kinds.r settle-removal.Asked settle-removal.Learnt
+one-settle-removal =
+    one-answer 1 settle-removal-kinds.ps settle-removal-kinds.r settle-removal.Asked settle-removal.Learnt _ _
+    (λ κs a ok x xs f p. (p .whole, λ i. (p .words i, (tt, (tt, (tt, (tt, (tt, (tt, (tt, tt))))))))))
+
+pub one-settle-insertion : Determines 1 settle-insertion-kinds.ps settle-insertion-kinds.r settle-insertion.Asked settle-insertion.Learnt
+one-settle-insertion =
+    one-answer 1 settle-insertion-kinds.ps settle-insertion-kinds.r settle-insertion.Asked settle-insertion.Learnt _ _
+    (λ κs a ok x xs f p. (p .whole, λ i. (p .words i, (tt, (tt, (tt, (tt, (tt, (tt, (tt, (tt, tt)))))))))))

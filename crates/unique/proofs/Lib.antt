@@ -1,0 +1,11 @@
+-- Uniqueness: the law, and then the functions of each crate.
+pub mod OneLaws
+pub mod CardLaws
+pub mod RackLaws
+pub mod DriverLaws
+pub mod LenderLaws
+pub mod DeskLaws
+pub mod LineLaws
+pub mod RecordLaws
+pub mod ScratchLaws
+pub mod JudgeLaws

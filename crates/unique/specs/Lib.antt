@@ -1,0 +1,2 @@
+-- What a reader must believe of uniqueness.
+pub mod One
