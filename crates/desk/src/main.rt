@@ -1,79 +1,48 @@
 // The desk: document 01, "The desk program reads lines and plays both sides." The files `stdin` and `stdout` beside src/ are the
 // paper's input and whole output.
 //
-// What a line does and prints is proved in `replies`; here bytes come in and go out. Stands on `frames` and `replies`.
-ghost use Prim.Native.Nat.{_≤_};
-ghost use lib.ListN.{length};
-use card::Card;
+// What an input makes the desk print is proved in `sitting`, whatever chunks it comes in; here bytes are read and written, and
+// nothing else. Stands on `sitting`.
 use libc::STDIN_FILENO;
 use libc::STDOUT_FILENO;
-use turns::Desk;
+use sitting::Sitting;
 
 // The words that are lent for a tree.
 const TREE_WORDS: usize = 8192;
 
-// One byte more than a line may have: what is held then says what the line says.
-const LINE_HELD: usize = 129;
-
-// The longest reply has 106 bytes: 0, four numbers of 20 digits, words.
-const REPLY_ROOM: usize = 128;
-
 const CHUNK: usize = 4096;
 
-struct Fed {
-    desk: Desk,
-    held: usize,
-}
+// Room for many replies: all of it is written at once.
+const ROOM: usize = 4096;
 
-fn say(desk: Desk, line: &[u8], tree: &mut [u64]) -> Desk {
-    let mut out = [0u8; REPLY_ROOM];
-    let done = replies::answer_line(desk, line, tree, &mut out);
-    let n = done.bytes;
-    io::write_all(STDOUT_FILENO, &out[..n]);
-    done.desk
-}
-
-// Answers the lines that end in the chunk; hands back the desk and how much of the next line is held.
-fn feed(desk: Desk, tree: &mut [u64], buffer: &mut [u8], before: usize, chunk: &[u8]) -> Fed
-    requires { ⌜ before ≤ length (now buffer) ⌝ }
-    ensures { λ r. ⌜ r .held ≤ length (now (buffer .entry)) ⌝ }
-{
-    let mut after = desk;
-    let mut held = before;
+// Hands in a chunk until all of it is taken.
+fn pass(sitting: Sitting, tree: &mut [u64], chunk: &[u8]) -> Sitting {
+    let mut out = [0u8; ROOM];
+    let mut after = sitting;
     let mut from = 0;
     while from < chunk.len() {
-        let taken = frames::take_line(buffer, held, chunk, from);
-        from = taken.next;
-        held = taken.held;
-        if taken.ended {
-            after = say(after, &buffer[..held], tree);
-            held = 0;
-        }
+        let fed = sitting::feed(after, tree, &chunk[from..], &mut out);
+        let written = fed.written;
+        io::write_all(STDOUT_FILENO, &out[..written]);
+        after = fed.sitting;
+        from += fed.taken;
     }
-    Fed {
-        desk: after,
-        held: held,
-    }
+    after
 }
 
-// Before any accepted `size` the card means nothing: it is the one that a refused start hands back, as in the theorem `paper`.
-fn shut() -> Desk {
-    let refused = Card::start(0, 0, 0, 0);
-    let card = refused.card;
-    Desk {
-        sized: false,
-        card: card,
-    }
+// The end of the input.
+fn end(sitting: Sitting, tree: &mut [u64]) {
+    let mut out = [0u8; ROOM];
+    let written = sitting::close(sitting, tree, &mut out);
+    io::write_all(STDOUT_FILENO, &out[..written]);
 }
 
 // A proved loop has to end, and nothing says that the input does, so that the turns are counted down from a number that no run
 // uses up.
 fn main() {
-    let mut buffer = [0u8; LINE_HELD];
     let mut chunk = [0u8; CHUNK];
     let mut tree = [0u64; TREE_WORDS];
-    let mut desk = shut();
-    let mut held = 0;
+    let mut sitting = sitting::open();
     let mut left = u64::MAX;
     while left > 0 {
         let got = libc::read(STDIN_FILENO, &mut chunk);
@@ -81,12 +50,8 @@ fn main() {
         if n == 0 {
             break;
         }
-        let fed = feed(desk, &mut tree, &mut buffer, held, &chunk[..n]);
-        desk = fed.desk;
-        held = fed.held;
+        sitting = pass(sitting, &mut tree, &chunk[..n]);
         left -= 1;
     }
-    if held > 0 {
-        say(desk, &buffer[..held], &mut tree);
-    }
+    end(sitting, &mut tree);
 }

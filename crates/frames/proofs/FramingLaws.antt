@@ -23,11 +23,11 @@ use Rattle.frames.proofs.TakeLaws.{takes-within, takes-room}
 abbrev pub Free : List ℕ → Type 0
 Free bytes = before 10 bytes ≡ bytes
 
-record FreeHead (b : ℕ) (bs : List ℕ) : Type 0 where
-  other : eqb b 10 ≡ false
-  rest : Free bs
+pub record FreeHead (b : ℕ) (bs : List ℕ) : Type 0 where
+  pub other : eqb b 10 ≡ false
+  pub rest : Free bs
 
-free-head : (b : ℕ) (bs : List ℕ) → Free (b ∷ bs) → FreeHead b bs
+pub free-head : (b : ℕ) (bs : List ℕ) → Free (b ∷ bs) → FreeHead b bs
 unfolding before
 free-head b bs = (elim (eqb b 10) as (λ t. eqb b 10 ≡ t → cond t [] (b ∷ before 10 bs) ≡ b ∷ bs → FreeHead b bs) [
   | true ↦ λ e f. absurd (nothing f)
@@ -39,7 +39,7 @@ free-head b bs = (elim (eqb b 10) as (λ t. eqb b 10 ≡ t → cond t [] (b ∷ 
         let no : _≡_ {A = ℕ} 0 1 = cc in
         omega arith
 
-free-before : (bs : List ℕ) → Free (before 10 bs)
+pub free-before : (bs : List ℕ) → Free (before 10 bs)
 unfolding before
 free-before [] = refl
 free-before (b ∷ bs) = (elim (eqb b 10) as (λ t. eqb b 10 ≡ t → before 10 (cond t [] (b ∷ before 10 bs)) ≡ cond t [] (b ∷ before 10 bs)) [
@@ -70,12 +70,12 @@ lines-open (a ∷ b ∷ xs) f =
     rw (h .other, lines-open (b ∷ xs) (h .rest))
 
 -- ---- bytes with a line end, or without
-unended : (bs : List ℕ) → hasEnd bs ≡ false → before 10 bs ≡ bs
+pub unended : (bs : List ℕ) → hasEnd bs ≡ false → before 10 bs ≡ bs
 unended bs e =
     let all : length bs ≤ length (before 10 bs) = ltb-false _ _ e in
     sym (before-head 10 bs) ∙ take-all (length (before 10 bs)) bs all
 
-ended : (bs : List ℕ) → hasEnd bs ≡ true → bs ≡ before 10 bs ++ 10 ∷ drop (suc (length (before 10 bs))) bs
+pub ended : (bs : List ℕ) → hasEnd bs ≡ true → bs ≡ before 10 bs ++ 10 ∷ drop (suc (length (before 10 bs))) bs
 unfolding before
 ended [] = λ e. absurd (true≢false (sym e))
 ended (b ∷ bs) = (elim (eqb b 10) as (λ t. eqb b 10 ≡ t → ltb (length (cond t [] (b ∷ before 10 bs))) (suc (length bs)) ≡ true → b ∷ bs ≡ cond t [] (b ∷ before 10 bs) ++ 10 ∷ drop (suc (length (cond t [] (b ∷ before 10 bs)))) (b ∷ bs)) [
@@ -122,28 +122,28 @@ unfolding before
 input-heard input = lines-heard [] input refl
 
 -- up to the first line end
-ended-first : (begun xs ys : List ℕ) → Free xs → endedIn begun (xs ++ 10 ∷ ys) ≡ (begun ++ xs) ∷ endedIn [] ys
+pub ended-first : (begun xs ys : List ℕ) → Free xs → endedIn begun (xs ++ 10 ∷ ys) ≡ (begun ++ xs) ∷ endedIn [] ys
 unfolding endedIn
 ended-first begun [] ys f = rw append-nil
 ended-first begun (x ∷ xs) ys f =
     let h = free-head x xs f in
     rw (h .other) (ended-first (begun ++ x ∷ []) xs ys (h .rest) ∙ rw append-assoc)
 
-begun-first : (begun xs ys : List ℕ) → Free xs → begunBy begun (xs ++ 10 ∷ ys) ≡ begunBy [] ys
+pub begun-first : (begun xs ys : List ℕ) → Free xs → begunBy begun (xs ++ 10 ∷ ys) ≡ begunBy [] ys
 unfolding begunBy
 begun-first begun [] ys f = refl
 begun-first begun (x ∷ xs) ys f =
     let h = free-head x xs f in
     rw (h .other) (begun-first (begun ++ x ∷ []) xs ys (h .rest))
 
-ended-none : (begun xs : List ℕ) → Free xs → endedIn begun xs ≡ []
+pub ended-none : (begun xs : List ℕ) → Free xs → endedIn begun xs ≡ []
 unfolding endedIn
 ended-none begun [] f = refl
 ended-none begun (x ∷ xs) f =
     let h = free-head x xs f in
     rw (h .other) (ended-none (begun ++ x ∷ []) xs (h .rest))
 
-begun-none : (begun xs : List ℕ) → Free xs → begunBy begun xs ≡ begun ++ xs
+pub begun-none : (begun xs : List ℕ) → Free xs → begunBy begun xs ≡ begun ++ xs
 unfolding begunBy
 begun-none begun [] f = sym (append-nil begun)
 begun-none begun (x ∷ xs) f =
@@ -156,10 +156,10 @@ module _
     (t : Takes buffer held chunk from r after)
   where
     module _ (e : r .ended ≡ true) where
-      has : hasEnd (drop from chunk) ≡ true
+      pub has : hasEnd (drop from chunk) ≡ true
       has = sym (t .ended) ∙ e
 
-      past : drop (r .next) chunk ≡ drop (suc (length (before 10 (drop from chunk)))) (drop from chunk)
+      pub past : drop (r .next) chunk ≡ drop (suc (length (before 10 (drop from chunk)))) (drop from chunk)
       past =
           let n : takenOf (drop from chunk) ≡ suc (length (before 10 (drop from chunk))) = rw has (omega arith) in
           rw (t .next, n) (sym (drop-drop (suc (length (before 10 (drop from chunk)))) from chunk))
@@ -196,7 +196,16 @@ pub record Keeps (buffer : List ℕ) (held : ℕ) (begun : List ℕ) : Type 0 wh
 pub keeps-nothing : (buffer : List ℕ) → Keeps buffer 0 []
 keeps-nothing buffer = record { within = omega arith; head = sym (take-nil (length buffer)) }
 
-take-twice : (n : ℕ) (xs ys : List ℕ) → take n (take n xs ++ ys) ≡ take n (xs ++ ys)
+-- of a line that is too long, its head says the same
+pub cut-says : (n : ℕ) (line : List ℕ) → 128 < n → lineSays (take n line) ≡ lineSays line
+cut-says n line m = (elim (ltb n (length line)) as (λ t. ltb n (length line) ≡ t → lineSays (take n line) ≡ lineSays line) [
+  | true ↦ λ e.
+      let long = ltb-true n (length line) e in
+      sym (over-long (take n line) (omega (arith, length-take n line))) ∙ over-long line (omega arith)
+  | false ↦ λ e. rw (take-all n line (ltb-false n (length line) e))
+]) refl
+
+pub take-twice : (n : ℕ) (xs ys : List ℕ) → take n (take n xs ++ ys) ≡ take n (xs ++ ys)
 take-twice zero xs ys = refl
 take-twice (suc n) [] ys = refl
 take-twice (suc n) (x ∷ xs) ys = ap (λ (l : List ℕ). x ∷ l) (take-twice n xs ys)
@@ -220,14 +229,6 @@ module _ (buffer : List ℕ) (held : ℕ) (begun : List ℕ) (k : Keeps buffer h
   -- with room for one byte more than a line may have, what is held says what the line says
   pub keeps-says : 128 < length buffer → lineSays (take held buffer) ≡ lineSays begun
   keeps-says l = rw (k .head) (cut-says (length buffer) begun l)
-    where
-      cut-says : (n : ℕ) (line : List ℕ) → 128 < n → lineSays (take n line) ≡ lineSays line
-      cut-says n line m = (elim (ltb n (length line)) as (λ t. ltb n (length line) ≡ t → lineSays (take n line) ≡ lineSays line) [
-        | true ↦ λ e.
-            let long = ltb-true n (length line) e in
-            sym (over-long (take n line) (omega (arith, length-take n line))) ∙ over-long line (omega arith)
-        | false ↦ λ e. rw (take-all n line (ltb-false n (length line) e))
-      ]) refl
 
   -- at the end of the input: a last line stands there exactly if some of it is held
   pub keeps-none : 0 < length buffer → held ≡ 0 → lastOf begun ≡ []

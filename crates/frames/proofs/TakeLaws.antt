@@ -43,7 +43,7 @@ appending-turns old at bytes from n i now a l m h =
     }
 
 -- ---- what is kept
-take-min : (a b : ℕ) (l : List ℕ) → take a (take b l) ≡ take (min a b) l
+pub take-min : (a b : ℕ) (l : List ℕ) → take a (take b l) ≡ take (min a b) l
 take-min a b l = (elim (leb a b) as (λ t. leb a b ≡ t → take a (take b l) ≡ take (min a b) l) [
   | true ↦ λ e.
       let h = leb-true a b e in

@@ -1,18 +1,17 @@
 -- Lines played one after another, and what is looked at behind each: document 01, "Input, then whole output". Assumes nothing.
 use Prim.Native.Nat.{ℕ}
-use mathlib.Core.Bool.{false}
-use mathlib.Core.List.{List, [], _∷_}
+use mathlib.Core.List.{List, [], _∷_, _++_}
 use lib.ListN.{length, replicate, drop}
 use Rattle.path.specs.Path.{bucket}
 use Rattle.path.specs.Layout.{recordWords}
 use Rattle.path.specs.BucketList.{numbers}
 use Rattle.rack.specs.Copy.{bucketPart}
 use Rattle.request.specs.declared.Waiting.{Waiting}
-use Rattle.card.specs.Calls.{zeroCard, listOf}
+use Rattle.card.specs.Calls.{listOf}
 use Rattle.lines.specs.Says.{lineSays}
-use Rattle.turns.specs.declared.Desk.{Desk}
 use Rattle.turns.specs.Step.{Left, nothing, stepOf}
 use Rattle.replies.specs.Reply.{bytesOf}
+use Rattle.sitting.specs.Output.{shut}
 
 -- a line in bytes, without its end, and what it prints; then something that is looked at after it, and what that shows
 pub record Row : Type 0 where
@@ -22,9 +21,6 @@ pub record Row : Type 0 where
   pub shows : List ℕ
 
 -- the desk before the first line, with 8,192 words lent
-abbrev pub shut : Desk
-shut = record { sized = false; card = zeroCard }
-
 abbrev pub opened : Left
 opened = nothing shut (replicate 8192 0)
 
@@ -39,6 +35,16 @@ given l (r ∷ rs) = bytesOf (nextOf l r .turn .reply) ∷ r .look (nextOf l r) 
 unfoldable pub stated : List Row → List (List ℕ)
 stated [] = []
 stated (r ∷ rs) = r .prints ∷ r .shows ∷ stated rs
+
+-- ---- whole bytes: "Input, then whole output"
+-- each line with its end
+unfoldable pub inputOf : List Row → List ℕ
+inputOf [] = []
+inputOf (r ∷ rs) = r .line ++ 10 ∷ inputOf rs
+
+unfoldable pub printsOf : List Row → List ℕ
+printsOf [] = []
+printsOf (r ∷ rs) = r .prints ++ printsOf rs
 
 -- ---- what may be looked at
 abbrev pub none : Left → List ℕ

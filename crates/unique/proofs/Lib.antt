@@ -5,6 +5,7 @@ pub mod RackLaws
 pub mod DriverLaws
 pub mod LenderLaws
 pub mod DeskLaws
+pub mod SittingLaws
 pub mod LineLaws
 pub mod RecordLaws
 pub mod ScratchLaws

@@ -1,22 +1,18 @@
--- `desk::main` is safe and ends. The loop: buffer, chunk and tree keep their lengths, and what is held fits. Its measure is the turns that are left. Assumes nothing.
+-- `desk::main` is safe and ends. The loop: chunk and tree keep their lengths. Its measure is the turns that are left. Assumes nothing.
 use borrow.Author.Needs.{needs}
-use native.Mathlib.Omega.{arith}
-use Prim.Native.Nat.{_≤_}
-use mathlib.Core.Path.{_≡_, sym}
+use mathlib.Core.Path.{_≡_}
 use lib.ListN.{length}
-use lib.Seq.{length-take-le}
 use Rattle.desk.proofs.main.Statement.{statement}
 use Rattle.desk.proofs.main.Tie as tie
 
 abbrev Inv-loop : tie.InvT-loop
-Inv-loop buffer₀ chunk₀ tree₀ desk₀ held₀ left₀ buffer chunk tree desk held left =
-    (length buffer ≡ 129) × ((length chunk ≡ 4096) × ((length tree ≡ 8192) × (held ≤ 129)))
+Inv-loop chunk₀ tree₀ sitting₀ left₀ chunk tree sitting left = (length chunk ≡ 4096) × (length tree ≡ 8192)
 
 abbrev μ-loop : tie.MeasureT-loop
-μ-loop buffer₀ chunk₀ tree₀ desk₀ held₀ left₀ buffer chunk tree desk held left = left
+μ-loop chunk₀ tree₀ sitting₀ left₀ chunk tree sitting left = left
 
-shut-requires : tie.Need-shut-requires Inv-loop μ-loop
-shut-requires c κs = search needs
+open-requires : tie.Need-open-requires Inv-loop μ-loop
+open-requires c κs = search needs
 
 loop-holds : tie.Need-loop-holds Inv-loop μ-loop
 loop-holds c = search needs
@@ -33,20 +29,17 @@ slice-aggregate-count c = search needs
 count-requires : tie.Need-count-requires Inv-loop μ-loop
 count-requires c κs = search needs
 
-slice-aggregate-feed : tie.Need-slice-aggregate-feed Inv-loop μ-loop
-slice-aggregate-feed c = search needs
-
-slice-aggregate-feed-2 : tie.Need-slice-aggregate-feed-2 Inv-loop μ-loop
-slice-aggregate-feed-2 c = search needs
+slice-aggregate-pass : tie.Need-slice-aggregate-pass Inv-loop μ-loop
+slice-aggregate-pass c = search needs
 
 array-share-prefix-chunk : tie.Need-array-share-prefix-chunk Inv-loop μ-loop
 array-share-prefix-chunk c = search needs
 
-slice-aggregate-feed-3 : tie.Need-slice-aggregate-feed-3 Inv-loop μ-loop
-slice-aggregate-feed-3 c = search needs
+slice-aggregate-pass-2 : tie.Need-slice-aggregate-pass-2 Inv-loop μ-loop
+slice-aggregate-pass-2 c = search needs
 
-feed-requires : tie.Need-feed-requires Inv-loop μ-loop
-feed-requires c κs = search needs
+pass-requires : tie.Need-pass-requires Inv-loop μ-loop
+pass-requires c κs = search needs
 
 sub-left : tie.Need-sub-left Inv-loop μ-loop
 sub-left c = search needs
@@ -57,23 +50,14 @@ loop-less c = search needs
 loop-again : tie.Need-loop-again Inv-loop μ-loop
 loop-again c = search needs
 
-array-share-prefix-buffer : tie.Need-array-share-prefix-buffer Inv-loop μ-loop
-array-share-prefix-buffer c = search needs
+slice-aggregate-end : tie.Need-slice-aggregate-end Inv-loop μ-loop
+slice-aggregate-end c = search needs
 
-slice-aggregate-say : tie.Need-slice-aggregate-say Inv-loop μ-loop
-slice-aggregate-say c = sym (length-take-le _ _ (omega arith))
-
-slice-aggregate-say-2 : tie.Need-slice-aggregate-say-2 Inv-loop μ-loop
-slice-aggregate-say-2 c = search needs
-
-say-requires : tie.Need-say-requires Inv-loop μ-loop
-say-requires c κs = search needs
+end-requires : tie.Need-end-requires Inv-loop μ-loop
+end-requires c κs = search needs
 
 returns : tie.Need-returns Inv-loop μ-loop
 returns c = search needs
-
-returns-2 : tie.Need-returns-2 Inv-loop μ-loop
-returns-2 c = search needs
 
 pub main-spec : {M : Type 1} → statement M
 main-spec =
@@ -81,23 +65,19 @@ main-spec =
     (tie.spec
     Inv-loop
     μ-loop
-    shut-requires
+    open-requires
     loop-holds
     slice-aggregate-read
     read-requires
     slice-aggregate-count
     count-requires
-    slice-aggregate-feed
-    slice-aggregate-feed-2
+    slice-aggregate-pass
     array-share-prefix-chunk
-    slice-aggregate-feed-3
-    feed-requires
+    slice-aggregate-pass-2
+    pass-requires
     sub-left
     loop-less
     loop-again
-    array-share-prefix-buffer
-    slice-aggregate-say
-    slice-aggregate-say-2
-    say-requires
-    returns
-    returns-2)
+    slice-aggregate-end
+    end-requires
+    returns)

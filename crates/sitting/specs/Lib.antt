@@ -1,0 +1,4 @@
+-- What a reader must believe of a sitting at the desk.
+pub mod Output
+pub mod Sitting
+pub mod Run
