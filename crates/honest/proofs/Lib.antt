@@ -1,0 +1,2 @@
+-- The laws of a round with an honest rack.
+pub mod RoundLaws
