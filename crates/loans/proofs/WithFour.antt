@@ -1,11 +1,11 @@
--- A card that is lent for one call with four plain parameters: where `call` keeps its promise on the card that is lent to it, so does
+-- A card that is lent for one call with four plain parameters: where `call` keeps its promise on the card that is lent to it, a function of this form keeps
 --
 --     fn f(mut card: Card, p1: P1, p2: P2, p3: P3, p4: P4) -> Done {
 --         let answer = call(&mut card, p1, p2, p3, p4);
 --         Done { card: card, answer: answer }
 --     }
 --
--- by value. The walk: the local that holds the card is lent for a lifetime that is made for the call and ended after it, and comes back with the
+-- whatever that gives by value. The walk: the local that holds the card is lent for a lifetime that is made for the call and ended after it, and comes back with the
 -- card that the call left. A number that is looked up is a position in what is held at that step. Assumes nothing.
 use mathlib.Core.Path.{refl, ap}
 use Prim.Native.Nat.{ℕ}
@@ -19,6 +19,7 @@ use base.Fml.{GName, ftrue, flft, flent, fat}
 use prog.Wp.{Heap, Calls, Loops, WpFn, Tables}
 use ghost.Atoms.{Atoms}
 use contract.Monad.{fact}
+use contract.Lifetimes.{Lfts}
 use types.Kit.{Given, ⋆, ‵, raw, some, later, _⊛_, _$_, _∵_, !, qed, by, move, keep, drop, use1, use2, use3, split, join, pick, rewrite, fsplit, fjoin, suffices, frame, await, done}
 use types.Run.{look, init, forget, stop, from, load, addr, of-opd, and-then, no-more, assigns, land, returns, enter, alloc1, alloc0, params1, pass1, pass0, free1, free0}
 use types.Part.{agg}
@@ -38,8 +39,9 @@ use denote.Enum.Laws as EL
 use denote.Triple.Spec.{Meets, tripleOf}
 use denote.Triple.Statement.{Contract, Triple}
 use denote.Triple.Call.{calls-at}
-use denote.Triple.Clauses.{Ended, Clauses, ensured, lasts, closing}
-use denote.Triple.Walked.{says, Stays, stay-dropped, goes-dropped, walkOf, Walks, ends-at, walked, walk-meets}
+use denote.Triple.Entry.{Args}
+use denote.Triple.Clauses.{Ended, AtExit, atExit, Clauses, ensured, lasts, closing}
+use denote.Triple.Walked.{Stays, stay-dropped, goes-dropped, walkOf, Walks, ends-at, walked, walk-meets}
 use Rattle.card.specs.declared.Card.{Card}
 use Rattle.card.specs.declared.Done.{Done}
 use Rattle.card.specs.declared.Answer.{Answer}
@@ -50,6 +52,7 @@ use Rattle.card.proofs.Answer.Laws as N′
 use Rattle.card.proofs.Done as D
 use Rattle.card.proofs.Done.Laws as D′
 use Rattle.shapes.proofs.Arg.{Arg}
+use Rattle.shapes.proofs.Holds.{holds}
 use Rattle.loans.proofs.Laid.{laid, lifted, made, owes}
 
 module _ (P1 : Arg) (P2 : Arg) (P3 : Arg) (P4 : Arg) where
@@ -89,10 +92,12 @@ module _ (P1 : Arg) (P2 : Arg) (P3 : Arg) (P4 : Arg) where
   abbrev val : Card → Val
   val = LL.val T.the-type T′.the-laws
 
-  module _ {M : Type 1} (𝓤 : URA M) (Promise : Card → P1 .row .Denot → P2 .row .Denot → P3 .row .Denot → P4 .row .Denot → Done → Type 0) where
+  module _ {M : Type 1} (𝓤 : URA M) (Promise : Card → P1 .row .Denot → P2 .row .Denot → P3 .row .Denot → P4 .row .Denot → Done → Type 0)
+      (Mine : (κs : Lfts 0) → Args sig κs → Done → AtExit ended κs → SProp 𝓤)
+      (gives : (κs : Lfts 0) (a : Args sig κs) (r : Done) (e : AtExit ended κs) → Promise (a .0) (a .1 .0) (a .1 .1 .0) (a .1 .1 .1 .0) (a .1 .1 .1 .1 .0) r → ent 𝓤 (emp 𝓤) (Mine κs a r e)) where
     -- f's clauses, and the call's
     abbrev pub clauses : Clauses 𝓤 ended
-    clauses κs a = record { ghost = Unit {0}; requires = λ _. emp 𝓤; ensures = λ _ r e. fact 𝓤 (Promise (a .0) (a .1 .0) (a .1 .1 .0) (a .1 .1 .1 .0) (a .1 .1 .1 .1 .0) r) }
+    clauses κs a = record { ghost = Unit {0}; requires = λ _. emp 𝓤; ensures = λ _ r e. Mine κs a r e }
 
     abbrev pub clauses′ : Clauses 𝓤 ended′
     clauses′ κs a = record { ghost = Unit {0}; requires = λ _. emp 𝓤; ensures = λ _ r e. fact 𝓤 (Promise (now (a .0)) (a .1 .0) (a .1 .1 .0) (a .1 .1 .1 .0) (a .1 .1 .1 .1 .0) (record { card = now (e .0); answer = r })) }
@@ -119,7 +124,7 @@ module _ (P1 : Arg) (P2 : Arg) (P3 : Arg) (P4 : Arg) where
         exits d e is =
             qed W (‵ ftrue ∷ []) ∵
             suffices ! _ (ends-at 𝓤 H A ended stayed clauses W ((tt, tt, tt, x, at), tt) (LL.val D.the-type D′.the-laws d) d (tt, (P1 .last p1, (P2 .last p2, (P3 .last p3, (P4 .last p4, tt))))) (tt, (tt, (tt, (tt, (tt, tt)))))) $
-            says ! e $ frame ! $ nothing ! $ nothing ! $ fjoin ! $ nothing ! $ fjoin ! $ nothing ! $ fjoin ! $ nothing ! $ fjoin ! $ nothing ! $ fjoin ! $ frame ! $
+            holds ! (gives tt x d (atExit ended tt x (tt, (P1 .last p1, (P2 .last p2, (P3 .last p3, (P4 .last p4, tt)))))) e) $ frame ! $ nothing ! $ nothing ! $ fjoin ! $ nothing ! $ fjoin ! $ nothing ! $ fjoin ! $ nothing ! $ fjoin ! $ nothing ! $ fjoin ! $ frame ! $
             owned ! D.the-row (Is D.the-row) (LL.makes D.the-type D′.the-plain 𝓤 H A) d _ is $ done !
 
         -- what the call's triple binds outside: the card at l, lent for the lifetime ν under the name δ
@@ -170,7 +175,7 @@ module _ (P1 : Arg) (P2 : Arg) (P3 : Arg) (P4 : Arg) where
       walks C Λ fm k known = walked 𝓤 H A ended stayed clauses (WpFn 𝓤 H C Λ (fn k)) (λ κs. (vals, (λ p. P1 .val p ∷ [], (λ p. P2 .val p ∷ [], (λ p. P3 .val p ∷ [], (λ p. P4 .val p ∷ [], tt)))))) (λ κs. (LL.tells T.the-type T′.the-laws, (P1 .tells, (P2 .tells, (P3 .tells, (P4 .tells, tt))))))
           (λ κs qs bounds a _ are. walk (a .0) (a .1 .0) (a .1 .1 .0) (a .1 .1 .1 .0) (a .1 .1 .1 .1 .0) C Λ fm k known (are .0) (are .1 .0) (are .1 .1 .0) (are .1 .1 .1 .0) (are .1 .1 .1 .1 .0))
 
-      -- the law: where the call keeps the promise on the card that is lent, f keeps it by value
+      -- the law: where the call keeps the promise on the card that is lent, f keeps its own, which that gives by value
       pub kept : (k : Name) (𝓣 : Tables 𝓤 H) → Triple 𝓤 (𝓣 .C k) Of → Meets 𝓤 H A sig (WpFn 𝓤 H (𝓣 .C) (𝓣 .Λ) (fn k)) (closing 𝓤 H A ended clauses)
       kept k 𝓣 known = walk-meets 𝓤 H A ended stayed W (goes-dropped 𝓤 H A W 0 (plain (λ _. T.the-row)) yes (λ κs x f. refl), (goes-dropped 𝓤 H A W 0 (plain (λ _. P1 .row)) yes (λ κs x f. P1 .silent x f), (goes-dropped 𝓤 H A W 0 (plain (λ _. P2 .row)) yes (λ κs x f. P2 .silent x f), (goes-dropped 𝓤 H A W 0 (plain (λ _. P3 .row)) yes (λ κs x f. P3 .silent x f), (goes-dropped 𝓤 H A W 0 (plain (λ _. P4 .row)) yes (λ κs x f. P4 .silent x f), tt))))) clauses (WpFn 𝓤 H (𝓣 .C) (𝓣 .Λ) (fn k)) (WpFn-mono 𝓤 H (W .laws) 𝓣 (fn k))
           (walks (𝓣 .C) (𝓣 .Λ) (fmOf 𝓤 H (W .laws) 𝓣) k known)

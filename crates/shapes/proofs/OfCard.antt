@@ -1,4 +1,4 @@
--- A call on a lent card and nothing else: where `call` keeps its promise, so does
+-- A call on a lent card and nothing else: where `call` keeps its promise, a function of this form keeps
 --
 --     fn f(card: &mut Card) -> Answer {
 --         let done = card.call();
@@ -6,7 +6,7 @@
 --         done.answer
 --     }
 --
--- at the card that stood behind the reference and the card that stands there afterwards. The walk: the borrow of the card is opened; the
+-- whatever that gives at the card that stood behind the reference and the card that stands there afterwards. The walk: the borrow of the card is opened; the
 -- card is copied whole and handed to `call`; the card of its result is stored whole, and the borrow is closed there.
 -- A number that is looked up is a position in what is held at that step: a local i of n is at 2(n - 1 - i). Assumes nothing.
 use mathlib.Core.Path.{refl, ap}
@@ -21,6 +21,7 @@ use base.Fml.{GName, Lft, Share, ftrue, flft, fobs, fbor, fat}
 use prog.Wp.{Heap, Calls, Loops, WpFn, Tables}
 use ghost.Atoms.{Atoms}
 use contract.Monad.{fact}
+use contract.Lifetimes.{Lfts}
 use types.Kit.{Given, ⋆, ‵, raw, some, later, _⊛_, _$_, _∵_, !, qed, by, move, keep, drop, use1, use3, split, join, pick, rewrite, fsplit, fsplit3, fjoin, fjoin3, feqI, suffices, frame, await, done}
 use types.Run.{look, look-raw, init, store-raw, forget, stop, hop, fld, from, load, of-opd, and-then, no-more, assigns, land, returns, enter, alloc1, alloc0, params1, pass1, pass0, free1, free0}
 use types.Part.{whole, sub, look-in}
@@ -36,11 +37,12 @@ use denote.Steps.{only, opens, closes, owned, peeks, heard, nothing}
 use denote.Struct.Steps.{spelt}
 use denote.Struct.Laws as LL
 use denote.Enum.Laws as EL
+use denote.Triple.Entry.{Args}
 use denote.Triple.Spec.{Meets, tripleOf}
 use denote.Triple.Statement.{Contract, Triple}
 use denote.Triple.Call.{calls-at}
-use denote.Triple.Clauses.{Ended, Clauses, ensured, lasts, closing}
-use denote.Triple.Walked.{says, Stays, stay-ref, walkOf, goes-ref, Walks, ends-at, walked, walk-meets}
+use denote.Triple.Clauses.{Ended, AtExit, atExit, Clauses, ensured, lasts, closing}
+use denote.Triple.Walked.{Stays, stay-ref, walkOf, goes-ref, Walks, ends-at, walked, walk-meets}
 use Rattle.card.specs.declared.Card.{Card}
 use Rattle.card.specs.declared.Done.{Done}
 use Rattle.card.specs.declared.Answer.{Answer}
@@ -50,6 +52,7 @@ use Rattle.card.proofs.Answer as N
 use Rattle.card.proofs.Answer.Laws as N′
 use Rattle.card.proofs.Done as D
 use Rattle.card.proofs.Done.Laws as D′
+use Rattle.shapes.proofs.Holds.{holds}
 
 abbrev sig : Signature
 sig = record { lifetimes = 1; outlives = []; params = mutRefTo (0 ∷ []) tt (plain (λ _. T.the-row)) ∷ []; result = plain (λ _. N.the-row) }
@@ -86,10 +89,12 @@ vals = LL.vals T.the-type T′.the-laws
 abbrev ans : Answer → Val
 ans = EL.val N.the-type N′.the-laws
 
-module _ {M : Type 1} (𝓤 : URA M) (Promise : Card → Done → Type 0) where
+module _ {M : Type 1} (𝓤 : URA M) (Promise : Card → Done → Type 0)
+    (Mine : (κs : Lfts 1) → Args sig κs → Answer → AtExit ended κs → SProp 𝓤)
+    (gives : (κs : Lfts 1) (a : Args sig κs) (r : Answer) (e : AtExit ended κs) → Promise (now (a .0)) (record { card = now (e .0); answer = r }) → ent 𝓤 (emp 𝓤) (Mine κs a r e)) where
   -- f's clauses, and the call's
   abbrev pub clauses : Clauses 𝓤 ended
-  clauses κs a = record { ghost = Unit {0}; requires = λ _. emp 𝓤; ensures = λ _ r e. fact 𝓤 (Promise (now (a .0)) (record { card = now (e .0); answer = r })) }
+  clauses κs a = record { ghost = Unit {0}; requires = λ _. emp 𝓤; ensures = λ _ r e. Mine κs a r e }
 
   abbrev pub clauses′ : Clauses 𝓤 ended′
   clauses′ κs a = record { ghost = Unit {0}; requires = λ _. emp 𝓤; ensures = λ _ r e. fact 𝓤 (Promise (a .0) r) }
@@ -116,7 +121,7 @@ module _ {M : Type 1} (𝓤 : URA M) (Promise : Card → Done → Type 0) where
       exits r e is =
           qed W (‵ (fobs γ (T.the-row .coded .code (r .card))) ∷ ‵ (fbor κ (Body (mem T.the-row) b o γ)) ∷ ‵ (flft κ q) ∷ ‵ ftrue ∷ []) ∵
           suffices ! _ (ends-at 𝓤 H A ended stayed clauses W (((κ, tt), (q, tt), tt, x, at), tt) (ans (r .answer)) (r .answer) (r .card, tt) (tt, tt)) $
-          says ! e $ move ! (2 ∷ 3 ∷ []) $ join ! $ frame ! $
+          holds ! (gives (κ, tt) x (r .answer) (atExit ended (κ, tt) x (r .card, tt)) e) $ move ! (2 ∷ 3 ∷ []) $ join ! $ frame ! $
           feqI ! (List Val) (vptr b o ∷ []) (vptr b o ∷ []) refl $ fjoin3 ! $ nothing ! $ move ! (1 ∷ 0 ∷ []) $ fjoin ! $ frame ! $
           owned ! N.the-row (Is N.the-row) (EL.makes N.the-type N′.the-plain 𝓤 H A) (r .answer) _ (LL.owed D.the-type D′.the-laws r _ is .1 .0) $ done !
 
@@ -160,7 +165,7 @@ module _ {M : Type 1} (𝓤 : URA M) (Promise : Card → Done → Type 0) where
     walks C Λ fm k known = walked 𝓤 H A ended stayed clauses (WpFn 𝓤 H C Λ (fn k)) (λ κs. (ptr-vals, tt)) (λ κs. (mut-tells (named 0) (κs .0) T.the-row, tt))
         (λ κs qs bounds a _ are. walk (κs .0) (qs .0) (a .0 .ptr .0) (a .0 .ptr .1) (a .0 .name) (a .0 .now) C Λ fm k known)
 
-    -- the law: where the call keeps the promise by value, f keeps it on the card that is lent
+    -- the law: where the call keeps the promise by value, f keeps its own, which that gives on the card that is lent
     pub kept : (k : Name) (𝓣 : Tables 𝓤 H) → Triple 𝓤 (𝓣 .C k) Of → Meets 𝓤 H A sig (WpFn 𝓤 H (𝓣 .C) (𝓣 .Λ) (fn k)) (closing 𝓤 H A ended clauses)
     kept k 𝓣 known = walk-meets 𝓤 H A ended stayed W (goes-ref 𝓤 H A W 1 0 tt (plain (λ _. T.the-row)), tt) clauses (WpFn 𝓤 H (𝓣 .C) (𝓣 .Λ) (fn k)) (WpFn-mono 𝓤 H (W .laws) 𝓣 (fn k))
         (walks (𝓣 .C) (𝓣 .Λ) (fmOf 𝓤 H (W .laws) 𝓣) k known)

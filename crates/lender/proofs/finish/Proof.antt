@@ -1,5 +1,7 @@
 -- `lender::finish` meets its contract: the law WithSlice at the theorem of the call on a lent card. Assumes nothing.
 use Rattle.card.specs.Finish.{Finishes}
+use base.Logic.{emp}
+use contract.Monad.{factI}
 use contract.Running.{givenOf, tables, tablesOf}
 use denote.Triple.Spec.{tripleOf}
 use denote.Triple.Table.{entered, cited}
@@ -17,5 +19,6 @@ unfolding code.routine tablesOf
 finish-spec 𝓤 H 𝓜 𝓖 𝓡 =
     entered 𝓤 H (tripleOf 𝓤 H (𝓖 .A) f.signature (f.spec 𝓤 H (𝓖 .A) (𝓜 .mem) (𝓡 .run)))
     (tables 𝓤 H 𝓜 𝓡 code.env .C) (tables 𝓤 H 𝓜 𝓡 code.env .Λ) #lender·finish code.function (code.unfolded 𝓤 H 𝓜 𝓡)
-    (kept 𝓤 Finishes H (𝓖 .A) (givenOf 𝓤 H 𝓜 𝓖) call-def.name (tablesOf 𝓤 H 𝓜 (tables 𝓤 H 𝓜 𝓡 code.env))
+    (kept 𝓤 Finishes
+    (λ κs a r e. f.clauses 𝓤 H (𝓖 .A) (𝓜 .mem) (𝓡 .run) κs a .ensures tt r e) (λ κs a r e p. factI 𝓤 _ (emp 𝓤) p) H (𝓖 .A) (givenOf 𝓤 H 𝓜 𝓖) call-def.name (tablesOf 𝓤 H 𝓜 (tables 𝓤 H 𝓜 𝓡 code.env))
     (cited 𝓤 H (tripleOf 𝓤 H (𝓖 .A) call.signature (call.spec 𝓤 H (𝓖 .A) (𝓜 .mem) (𝓡 .run))) 𝓜 𝓡 code.env call-def.name call-def.routine code.calls-lent·finish (call-thm.met 𝓤 H 𝓜 𝓖 𝓡)))

@@ -2,6 +2,8 @@
 use Rattle.request.specs.declared.Waiting.the-variants.{Delete}
 use Rattle.card.specs.Calls.{Begins}
 use Rattle.shapes.proofs.Arg.{a-Leaf, a-Stamp}
+use base.Logic.{emp}
+use contract.Monad.{factI}
 use contract.Running.{givenOf, tables, tablesOf}
 use denote.Triple.Spec.{tripleOf}
 use denote.Triple.Table.{entered, cited}
@@ -19,5 +21,6 @@ unfolding code.routine tablesOf
 begin-delete-spec 𝓤 H 𝓜 𝓖 𝓡 =
     entered 𝓤 H (tripleOf 𝓤 H (𝓖 .A) f.signature (f.spec 𝓤 H (𝓖 .A) (𝓜 .mem) (𝓡 .run)))
     (tables 𝓤 H 𝓜 𝓡 code.env .C) (tables 𝓤 H 𝓜 𝓡 code.env .Λ) #lent·begin-delete code.function (code.unfolded 𝓤 H 𝓜 𝓡)
-    (kept a-Leaf a-Stamp 𝓤 (λ k label stamp ys zs d. Begins k (Delete label stamp) ys zs d) H (𝓖 .A) (givenOf 𝓤 H 𝓜 𝓖) call-def.name (tablesOf 𝓤 H 𝓜 (tables 𝓤 H 𝓜 𝓡 code.env))
+    (kept a-Leaf a-Stamp 𝓤 (λ k label stamp ys zs d. Begins k (Delete label stamp) ys zs d)
+    (λ κs a r e. f.clauses 𝓤 H (𝓖 .A) (𝓜 .mem) (𝓡 .run) κs a .ensures tt r e) (λ κs a r e p. factI 𝓤 _ (emp 𝓤) p) H (𝓖 .A) (givenOf 𝓤 H 𝓜 𝓖) call-def.name (tablesOf 𝓤 H 𝓜 (tables 𝓤 H 𝓜 𝓡 code.env))
     (cited 𝓤 H (tripleOf 𝓤 H (𝓖 .A) call.signature (call.spec 𝓤 H (𝓖 .A) (𝓜 .mem) (𝓡 .run))) 𝓜 𝓡 code.env call-def.name call-def.routine code.calls-card·Card·begin-delete (call-thm.met 𝓤 H 𝓜 𝓖 𝓡)))
