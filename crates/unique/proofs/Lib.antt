@@ -3,6 +3,7 @@ pub mod OneLaws
 pub mod CardLaws
 pub mod RackLaws
 pub mod DriverLaws
+pub mod LentLaws
 pub mod LenderLaws
 pub mod DeskLaws
 pub mod SittingLaws
