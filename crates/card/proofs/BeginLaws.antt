@@ -30,7 +30,7 @@ use Rattle.card.specs.BadCard.{badCard}
 use Rattle.judge.specs.BadParts.{oddLeast}
 use Rattle.card.specs.Answers.{refused}
 use Rattle.request.specs.Tables.{countsFor}
-use Rattle.card.specs.Calls.{listOf, beginTable, withWaiting, begun, Begins}
+use Rattle.card.specs.Calls.{listOf, beginTable, withWaiting, listed, begun, Begins}
 use Rattle.card.proofs.AnswerLaws.{is-refused, is-done}
 use Rattle.card.proofs.GoodLaws.{Good, good}
 use Rattle.judge.proofs.FitLaws.{neither}
@@ -183,7 +183,7 @@ module _ (k : Card) (w : Waiting) (before : List ℕ) (number : ℕ) (why : numb
       }
 
   pub begin-done : (after : List ℕ) (n : Counts) → number ≡ 0 → Names (listOf k w) before after n
-      → Begins k w before after (record { card = withWaiting k w; answer = Listed (n .whole) (n .least) })
+      → Begins k w before after (listed k w n)
   begin-done after n h l =
       record {
         call = rw (← why, l .counted) (is-done k number (begun k w) h refl);

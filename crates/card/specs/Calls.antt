@@ -9,8 +9,9 @@ use Rattle.record.specs.declared.Record.{Record}
 use Rattle.record.specs.Standing.{dummy}
 use Rattle.record.specs.Words.{record4}
 use Rattle.path.specs.declared.sizes.Sizes.{Sizes}
+use Rattle.path.specs.declared.list.Listed.{Listed as Counts}
 use Rattle.path.specs.Sizes.{inRange}
-use Rattle.path.specs.BucketList.{BucketList, pairList, pathList, numbers, laid}
+use Rattle.path.specs.BucketList.{BucketList, pairList, pathList, numbers, counts, laid}
 use Rattle.refusal.specs.Refusal.{Refusal, row, firstGiven}
 use Rattle.card.specs.declared.Card.{Card}
 use Rattle.request.specs.declared.Waiting.{Waiting}
@@ -68,13 +69,12 @@ beginTable k w room =
     ∷ row 2 (waits (k .waiting))
     ∷ (requestTable k w ++ (row 11 (ltb room (length (numbers (listOf k w)))) ∷ []))
 
--- "It changes nothing on the card but the waiting request"
+-- "It changes nothing on the card but the waiting request", and answers "how many are whole and how many are least-record only"
+abbrev pub listed : Card → Waiting → Counts → Done
+listed k w n = record { card = withWaiting k w; answer = Listed (n .whole) (n .least) }
+
 abbrev pub begun : Card → Waiting → Done
-begun k w =
-    record {
-      card = withWaiting k w;
-      answer = Listed (length (listOf k w .whole)) (length (listOf k w .least));
-    }
+begun k w = listed k w (counts (listOf k w))
 
 -- the promise of a begin: its answer, and the lent list afterwards
 pub record Begins (k : Card) (w : Waiting) (before after : List ℕ) (answer : Done) : Type 0 where

@@ -3,14 +3,15 @@
 ghost use mathlib.Core.Path.{_≡_};
 ghost use Rattle.refusal.specs.Refusal.{firstGiven};
 ghost use Rattle.path.specs.Sizes.{sizesOf};
-ghost use Rattle.card.specs.Answers.{Answered};
-ghost use Rattle.card.specs.Calls.{freshCard, zeroCard, startTable, started, Begins, minTable, foundMin, withdrawTable, withdrawn};
+ghost use Rattle.card.specs.Answers.{refused, Answered};
+ghost use Rattle.card.specs.Calls.{freshCard, zeroCard, startTable, started, listed, Begins, minTable, foundMin, withdrawTable, withdrawn};
 use crate::Answer;
 use crate::Card;
 use crate::Done;
 use crate::why::why_begin;
 use crate::why::why_min;
 use crate::why::why_withdraw;
+use path::Listed;
 use path::Sizes;
 use record::Leaf;
 use record::Record;
@@ -87,6 +88,35 @@ impl Card {
         }
     }
 
+    // Refused with this number.
+    pub(crate) fn refuse(self, number: u64) -> Done
+        ensures { λ d. ⌜ d ≡ refused self number ⌝ }
+    {
+        let answer = Answer::Refused(number);
+        Done {
+            card: self,
+            answer: answer,
+        }
+    }
+
+    // The request waits, and its list has so many numbers.
+    fn begun(self, request: Waiting, counts: Listed) -> Done
+        ensures { λ d. ⌜ d ≡ listed self request counts ⌝ }
+    {
+        let answer = Answer::Listed {
+            whole: counts.whole,
+            least: counts.least,
+        };
+        let card = Card {
+            waiting: request,
+            ..self
+        };
+        Done {
+            card: card,
+            answer: answer,
+        }
+    }
+
     pub fn begin_insert(
         self,
         key: u64,
@@ -107,25 +137,10 @@ impl Card {
         };
         let number = why_begin(self, request, list.len());
         if number != 0 {
-            let answer = Answer::Refused(number);
-            return Done {
-                card: self,
-                answer: answer,
-            };
+            return self.refuse(number);
         }
         let counts = self.sizes.list_pair(first, second, list);
-        let answer = Answer::Listed {
-            whole: counts.whole,
-            least: counts.least,
-        };
-        let card = Card {
-            waiting: request,
-            ..self
-        };
-        Done {
-            card: card,
-            answer: answer,
-        }
+        self.begun(request, counts)
     }
 
     pub fn begin_extract(self, list: &mut [u64]) -> Done
@@ -134,25 +149,10 @@ impl Card {
         let request = Waiting::Extract;
         let number = why_begin(self, request, list.len());
         if number != 0 {
-            let answer = Answer::Refused(number);
-            return Done {
-                card: self,
-                answer: answer,
-            };
+            return self.refuse(number);
         }
         let counts = self.sizes.list_path(self.least.label, list);
-        let answer = Answer::Listed {
-            whole: counts.whole,
-            least: counts.least,
-        };
-        let card = Card {
-            waiting: request,
-            ..self
-        };
-        Done {
-            card: card,
-            answer: answer,
-        }
+        self.begun(request, counts)
     }
 
     pub fn begin_delete(self, label: Leaf, stamp: Stamp, list: &mut [u64]) -> Done
@@ -164,25 +164,10 @@ impl Card {
         };
         let number = why_begin(self, request, list.len());
         if number != 0 {
-            let answer = Answer::Refused(number);
-            return Done {
-                card: self,
-                answer: answer,
-            };
+            return self.refuse(number);
         }
         let counts = self.sizes.list_path(label, list);
-        let answer = Answer::Listed {
-            whole: counts.whole,
-            least: counts.least,
-        };
-        let card = Card {
-            waiting: request,
-            ..self
-        };
-        Done {
-            card: card,
-            answer: answer,
-        }
+        self.begun(request, counts)
     }
 
     // At once, and no finished request: the list is empty, and no words are moved.
@@ -191,11 +176,7 @@ impl Card {
     {
         let number = why_min(self);
         if number != 0 {
-            let answer = Answer::Refused(number);
-            return Done {
-                card: self,
-                answer: answer,
-            };
+            return self.refuse(number);
         }
         let least = self.least;
         let answer = Answer::Least(least);
@@ -210,11 +191,7 @@ impl Card {
     {
         let number = why_withdraw(self);
         if number != 0 {
-            let answer = Answer::Refused(number);
-            return Done {
-                card: self,
-                answer: answer,
-            };
+            return self.refuse(number);
         }
         let waiting = Waiting::Nothing;
         let answer = Answer::Withdrawn;

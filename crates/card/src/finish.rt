@@ -5,7 +5,6 @@ ghost use Prim.Native.Nat.{_+_, _≤_};
 ghost use lib.ListN.{length};
 ghost use Rattle.refusal.specs.Refusal.{firstGiven};
 ghost use Rattle.card.specs.Tables.{cardOf};
-ghost use Rattle.card.specs.Answers.{refused};
 ghost use Rattle.card.specs.Finish.{entryTable, Finishes};
 use crate::Answer;
 use crate::Card;
@@ -20,17 +19,6 @@ use request::Waiting;
 use settle::Settled;
 
 impl Card {
-    // Refused with this number.
-    fn refuse(self, number: u64) -> Done
-        ensures { λ d. ⌜ d ≡ refused self number ⌝ }
-    {
-        let answer = Answer::Refused(number);
-        Done {
-            card: self,
-            answer: answer,
-        }
-    }
-
     // The card that comes out: one request more is finished, and none waits.
     fn after(self, out: Settled) -> Card
         requires { ⌜ self .t ≤ 4294967295 ⌝ }

@@ -11,10 +11,13 @@ use Rattle.card.proofs.Card.begin_delete.Tie as tie
 why-begin-requires : tie.Need-why-begin-requires
 why-begin-requires c κs = search needs
 
+refuse-requires : tie.Need-refuse-requires
+refuse-requires c κs = search needs
+
 returns : tie.Need-returns
 returns c =
-    let s = c .before .before .before .args in
-    begin-refused (s .self) (Delete (s .label) (s .stamp)) (s .list .now) _ (c .before .why-begin .ensures) (c .if1 .taken)
+    let s = c .before .before .before .before .args in
+    rw (c .refuse .ensures) (begin-refused (s .self) (Delete (s .label) (s .stamp)) (s .list .now) _ (c .before .before .why-begin .ensures) (c .before .if1 .taken))
 
 list-path-requires : tie.Need-list-path-requires
 unfolding listOf
@@ -25,15 +28,18 @@ list-path-requires c κs =
     let d = deletable (s .self) (s .label) (s .stamp) (b .request) in
     ((i .tree .height .1, d .label), b .place)
 
+begun-requires : tie.Need-begun-requires
+begun-requires c κs = search needs
+
 same-length : tie.Need-same-length
 same-length c = search needs
 
 returns-2 : tie.Need-returns-2
 unfolding listOf
 returns-2 c =
-    let s = c .before .before .before .before .before .before .before .before .before .before .args in
-    begin-done (s .self) (Delete (s .label) (s .stamp)) (s .list .now) _ (c .before .before .before .before .before .before .before .before .why-begin .ensures) _ _ (c .before .before .before .before .before .before .before .if1 .left) (c .before .before .before .before .before .list-path .ensures)
+    let s = c .before .before .before .before .before .before .before .before .args in
+    rw (c .begun .ensures) (begin-done (s .self) (Delete (s .label) (s .stamp)) (s .list .now) _ (c .before .before .before .before .before .before .why-begin .ensures) _ _ (c .before .before .before .before .before .if1 .left) (c .before .before .before .list-path .ensures))
 
 pub begin-delete-spec : {M : Type 1} → statement M
 begin-delete-spec =
-    tie.close (tie.spec why-begin-requires returns list-path-requires same-length returns-2)
+    tie.close (tie.spec why-begin-requires refuse-requires returns list-path-requires begun-requires same-length returns-2)
