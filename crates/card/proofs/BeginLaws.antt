@@ -13,10 +13,10 @@ use borrow.Author.Tests.{eqb-false, eq-eqb, ne-eqb, leb-false, ltb-false, lt-ltb
 use Rattle.record.specs.declared.Leaf.{Leaf}
 use Rattle.record.specs.declared.Stamp.{Stamp}
 use Rattle.record.specs.Standing.{dummyKey, known, isDummy, isProper, mayStand}
-use Rattle.path.specs.declared.list.Listed.{Listed as Counts}
-use Rattle.path.specs.BucketList.{numbers, counts, pairList, pathList, Names}
+use Rattle.lists.specs.declared.Listed.{Listed as Counts}
+use Rattle.lists.specs.BucketList.{numbers, counts, pairList, pathList, Names}
 use Rattle.path.proofs.SizesLaws.{in-range}
-use Rattle.path.proofs.ListLaws.{length-numbers, pair-counts, path-counts}
+use Rattle.lists.proofs.ListLaws.{length-numbers, pair-counts, path-counts}
 use Rattle.refusal.specs.Refusal.{firstGiven}
 use Rattle.refusal.proofs.RefusalLaws.{none-given, Numbered, none, next, first-append, append-none}
 use Rattle.root.specs.Root.{rootFull}

@@ -10,8 +10,8 @@ use Rattle.record.specs.declared.Leaf.{Leaf}
 use Rattle.record.specs.declared.Stamp.{Stamp}
 use Rattle.record.specs.Standing.{isProper}
 use Rattle.record.proofs.StandingLaws.{proper-true}
-use Rattle.path.specs.BucketList.{counts, fetchedFor}
-use Rattle.path.specs.declared.list.Listed.{Listed as Counts}
+use Rattle.lists.specs.BucketList.{counts, fetchedFor}
+use Rattle.lists.specs.declared.Listed.{Listed as Counts}
 use Rattle.path.proofs.SizesLaws.{in-range}
 use Rattle.settle.specs.Room.{Parts, RemovalRoom, InsertionRoom}
 use Rattle.refusal.specs.Refusal.{firstGiven}

@@ -8,7 +8,7 @@ use lib.ListN.{length}
 use borrow.Author.Tests.{eq-eqb, ne-eqb}
 use Rattle.record.specs.declared.Leaf.{Leaf}
 use Rattle.record.specs.declared.Stamp.{Stamp}
-use Rattle.path.specs.BucketList.{wordsMoved, pathList, pairList}
+use Rattle.lists.specs.BucketList.{wordsMoved, pathList, pairList}
 use Rattle.gather.specs.Removal.{named}
 use Rattle.refusal.specs.Refusal.{row, firstGiven}
 use Rattle.refusal.proofs.RefusalLaws.{first-append}

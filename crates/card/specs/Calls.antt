@@ -9,9 +9,9 @@ use Rattle.record.specs.declared.Record.{Record}
 use Rattle.record.specs.Standing.{dummy}
 use Rattle.record.specs.Words.{record4}
 use Rattle.path.specs.declared.sizes.Sizes.{Sizes}
-use Rattle.path.specs.declared.list.Listed.{Listed as Counts}
+use Rattle.lists.specs.declared.Listed.{Listed as Counts}
 use Rattle.path.specs.Sizes.{inRange}
-use Rattle.path.specs.BucketList.{BucketList, pairList, pathList, numbers, counts, laid}
+use Rattle.lists.specs.BucketList.{BucketList, pairList, pathList, numbers, counts, laid}
 use Rattle.refusal.specs.Refusal.{Refusal, row, firstGiven}
 use Rattle.card.specs.declared.Card.{Card}
 use Rattle.request.specs.declared.Waiting.{Waiting}

@@ -9,7 +9,7 @@ use lib.ListN.{length}
 use Rattle.record.specs.declared.Leaf.{Leaf}
 use Rattle.record.specs.declared.Record.{Record}
 use Rattle.record.specs.Standing.{recordOf, same}
-use Rattle.path.specs.BucketList.{counts, fetchedFor, wordsMoved}
+use Rattle.lists.specs.BucketList.{counts, fetchedFor, wordsMoved}
 use Rattle.gather.specs.Removal.{named}
 use Rattle.refusal.specs.Refusal.{Refusal, row, firstGiven}
 use Rattle.settle.specs.Left.{Left, wordsLeft, removal, insertion, removalDamaged, insertionDamaged}

@@ -11,7 +11,7 @@ use crate::Done;
 use crate::why::why_begin;
 use crate::why::why_min;
 use crate::why::why_withdraw;
-use path::Listed;
+use lists::Listed;
 use path::Sizes;
 use record::Leaf;
 use record::Record;
@@ -139,7 +139,7 @@ impl Card {
         if number != 0 {
             return self.refuse(number);
         }
-        let counts = self.sizes.list_pair(first, second, list);
+        let counts = lists::list_pair(self.sizes, first, second, list);
         self.begun(request, counts)
     }
 
@@ -151,7 +151,7 @@ impl Card {
         if number != 0 {
             return self.refuse(number);
         }
-        let counts = self.sizes.list_path(self.least.label, list);
+        let counts = lists::list_path(self.sizes, self.least.label, list);
         self.begun(request, counts)
     }
 
@@ -166,7 +166,7 @@ impl Card {
         if number != 0 {
             return self.refuse(number);
         }
-        let counts = self.sizes.list_path(label, list);
+        let counts = lists::list_path(self.sizes, label, list);
         self.begun(request, counts)
     }
 

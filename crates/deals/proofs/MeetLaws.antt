@@ -13,8 +13,8 @@ use Rattle.record.specs.declared.Stamp.{Stamp}
 use Rattle.record.specs.Standing.{dummyKey}
 use Rattle.path.specs.declared.sizes.Sizes.{Sizes}
 use Rattle.path.specs.Sizes.{leavesOf}
-use Rattle.path.specs.declared.list.Listed.{Listed as Counts}
-use Rattle.path.specs.BucketList.{pairList, pathList, fetchedFor}
+use Rattle.lists.specs.declared.Listed.{Listed as Counts}
+use Rattle.lists.specs.BucketList.{pairList, pathList, fetchedFor}
 use Rattle.request.specs.declared.Waiting.{Waiting}
 use Rattle.request.specs.declared.Waiting.the-variants.{Insert, Extract, Delete}
 use Rattle.request.specs.Tables.{countsFor}

@@ -14,8 +14,8 @@ use Rattle.record.specs.Standing.{isProper}
 use Rattle.record.proofs.StandingLaws.{proper-true, known-below}
 use Rattle.record.proofs.ManyLaws.{every-each}
 use Rattle.path.specs.Sizes.{leavesOf}
-use Rattle.path.specs.declared.list.Listed.{Listed as Counts}
-use Rattle.path.specs.BucketList.{fetchedFor}
+use Rattle.lists.specs.declared.Listed.{Listed as Counts}
+use Rattle.lists.specs.BucketList.{fetchedFor}
 use Rattle.path.proofs.SizesLaws.{in-range}
 use Rattle.refusal.specs.Refusal.{firstGiven}
 use Rattle.refusal.proofs.RefusalLaws.{none-given}

@@ -11,7 +11,7 @@ use Rattle.record.specs.Order.{noLater, smallerBy, smallestBy}
 use Rattle.record.specs.Standing.{dummyKey, same, isDummy, known, isProper, mayStand}
 use Rattle.record.specs.Words.{records, wordsOf}
 use Rattle.path.specs.declared.sizes.Sizes.{Sizes}
-use Rattle.path.specs.BucketList.{pairList, pathList, sum, wordsMoved}
+use Rattle.lists.specs.BucketList.{pairList, pathList, sum, wordsMoved}
 use Rattle.path.specs.Path.{number, pathBucket, holds, siblingOf, upFrom, path}
 use Rattle.path.specs.Sizes.{sizesOf, between, treeIn, inRange}
 use Rattle.refusal.specs.Refusal.{firstGiven}

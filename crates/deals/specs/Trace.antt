@@ -5,7 +5,7 @@ use mathlib.Core.Bool.{cond}
 use mathlib.Core.List.{List, [], _∷_}
 use lib.Dec.{eqb}
 use Rattle.record.specs.declared.Bucket.{Bucket}
-use Rattle.path.specs.BucketList.{BucketList}
+use Rattle.lists.specs.BucketList.{BucketList}
 use Rattle.card.specs.Answers.{numberOf}
 use Rattle.demands.specs.World.{World, Call, begin, finish, withdraw, findMin, Outcome, held, unless, step}
 

@@ -12,7 +12,7 @@ use borrow.Author.Tests.{ltb-true, ltb-false, lt-ltb, ne-eqb}
 use Rattle.record.specs.declared.Record.{Record}
 use Rattle.path.specs.Sizes.{treeIn, inRange}
 use Rattle.path.specs.Path.{number}
-use Rattle.path.specs.BucketList.{BucketList, numbers, laid}
+use Rattle.lists.specs.BucketList.{BucketList, numbers, laid}
 use Rattle.refusal.specs.Refusal.{firstGiven}
 use Rattle.settle.specs.Left.{Left, wordsLeft}
 use Rattle.rack.specs.Copy.{fetched, stored}

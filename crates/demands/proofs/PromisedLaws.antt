@@ -11,7 +11,7 @@ use borrow.Author.Tests.{eqb-true, eq-eqb, ne-eqb}
 use Rattle.path.specs.declared.sizes.Sizes.{Sizes}
 use Rattle.path.specs.Sizes.{treeIn, inRange}
 use Rattle.path.specs.Layout.{treeWords, freshTree}
-use Rattle.path.specs.BucketList.{laid}
+use Rattle.lists.specs.BucketList.{laid}
 use Rattle.refusal.specs.Refusal.{firstGiven}
 use Rattle.rack.specs.declared.Answer.{Answer as RackAnswer}
 use Rattle.rack.specs.Answers.{answerNumber, fillRefusal}

@@ -10,7 +10,7 @@ use Rattle.record.specs.declared.Stamp.{Stamp}
 use Rattle.record.specs.Standing.{dummyKey}
 use Rattle.path.specs.declared.sizes.Sizes.{Sizes}
 use Rattle.path.specs.Layout.{freshTree}
-use Rattle.path.specs.BucketList.{BucketList, laid}
+use Rattle.lists.specs.BucketList.{BucketList, laid}
 use Rattle.refusal.specs.Refusal.{firstGiven}
 use Rattle.settle.specs.Left.{wordsLeft}
 use Rattle.rack.specs.Refusals.{afterwards}

@@ -1,7 +1,7 @@
 // Ranges of sizes, path numbers, siblings and bucket lists.
 ghost use Prim.Native.Nat.{_≤_, _<_, _^_};
 use crate::line;
-use path::Listed;
+use lists::Listed;
 use path::Sizes;
 use record::Leaf;
 
@@ -89,7 +89,7 @@ fn pair_line(text: &[u8], sizes: Sizes, first: Leaf, second: Leaf)
     requires { ⌜ (first .0 < 2 ^ sizes .h) × (second .0 < 2 ^ sizes .h) ⌝ }
 {
     let mut list = [99u64; 12];
-    let counts = sizes.list_pair(first, second, &mut list);
+    let counts = lists::list_pair(sizes, first, second, &mut list);
     list_line(text, &list);
     counts_line(counts, sizes.z);
 }
@@ -99,7 +99,7 @@ fn path_line(text: &[u8], sizes: Sizes, leaf: Leaf)
     requires { ⌜ leaf .0 < 2 ^ sizes .h ⌝ }
 {
     let mut list = [99u64; 12];
-    let counts = sizes.list_path(leaf, &mut list);
+    let counts = lists::list_path(sizes, leaf, &mut list);
     list_line(text, &list);
     counts_line(counts, sizes.z);
 }

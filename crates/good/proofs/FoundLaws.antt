@@ -17,7 +17,7 @@ use Rattle.record.specs.Order.{smallest}
 use Rattle.record.specs.Many.{every}
 use Rattle.path.specs.declared.sizes.Sizes.{Sizes}
 use Rattle.path.specs.Sizes.{leavesOf}
-use Rattle.path.specs.BucketList.{pathList, pairList}
+use Rattle.lists.specs.BucketList.{pathList, pairList}
 use Rattle.path.proofs.SizesLaws.{in-range}
 use Rattle.root.specs.Root.{rootFull}
 use Rattle.way.specs.Evict.{seek}

@@ -13,7 +13,7 @@ use Rattle.record.specs.declared.Record.{Record}
 use Rattle.record.specs.Standing.{isDummy, isProper}
 use Rattle.path.specs.declared.sizes.Sizes.{Sizes}
 use Rattle.path.specs.Sizes.{leavesOf}
-use Rattle.path.specs.BucketList.{pathList, pairList}
+use Rattle.lists.specs.BucketList.{pathList, pairList}
 use Rattle.path.proofs.SizesLaws.{in-range}
 use Rattle.way.specs.Evict.{seek}
 use Rattle.gather.specs.Removal.{found, removed}

@@ -13,7 +13,7 @@ use Rattle.path.specs.declared.sizes.Sizes.{Sizes}
 use Rattle.path.specs.Sizes.{leavesOf}
 use Rattle.path.specs.Path.{root as theRoot}
 use Rattle.path.specs.Layout.{Contents, treeWords}
-use Rattle.path.specs.BucketList.{pathList}
+use Rattle.lists.specs.BucketList.{pathList}
 use Rattle.gather.specs.Removal.{found}
 use Rattle.gather.specs.Shown.{siblingsShown, wayShown}
 use Rattle.mend.specs.Mended.{pathWords}

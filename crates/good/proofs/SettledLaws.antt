@@ -12,7 +12,7 @@ use Rattle.record.specs.declared.Record.{Record}
 use Rattle.record.specs.Standing.{isProper}
 use Rattle.path.specs.declared.sizes.Sizes.{Sizes}
 use Rattle.path.specs.Sizes.{leavesOf}
-use Rattle.path.specs.BucketList.{pathList, pairList}
+use Rattle.lists.specs.BucketList.{pathList, pairList}
 use Rattle.root.specs.Root.{rootFull}
 use Rattle.gather.specs.Removal.{found}
 use Rattle.judge.specs.BadParts.{stampOf}

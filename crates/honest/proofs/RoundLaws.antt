@@ -9,10 +9,10 @@ use native.Mathlib.Nat.{mul-le-mul-right}
 use lib.ListN.{length}
 use Rattle.record.specs.declared.Record.{Record}
 use Rattle.path.specs.declared.sizes.Sizes.{Sizes}
-use Rattle.path.specs.declared.list.Listed.{Listed as Counts}
+use Rattle.lists.specs.declared.Listed.{Listed as Counts}
 use Rattle.path.specs.Sizes.{treeIn, inRange}
 use Rattle.path.specs.Layout.{bucketWords}
-use Rattle.path.specs.BucketList.{BucketList, counts, laid, fetchedFor}
+use Rattle.lists.specs.BucketList.{BucketList, counts, laid, fetchedFor}
 use Rattle.path.proofs.SizesLaws.{in-range}
 use Rattle.refusal.specs.Refusal.{Refusal, row, firstGiven}
 use Rattle.settle.specs.Left.{Left, wordsLeft}

@@ -15,8 +15,8 @@ use Rattle.record.specs.Standing.{dummy}
 use Rattle.record.specs.Words.{records}
 use Rattle.path.specs.declared.sizes.Sizes.{Sizes}
 use Rattle.path.specs.Layout.{Contents, recordWords, bucketWords, contentsWords}
-use Rattle.path.specs.BucketList.{wordsMoved, pairList, moved}
-use Rattle.path.proofs.ListLaws.{moved-by-counts, pair-counts, next-part}
+use Rattle.lists.specs.BucketList.{wordsMoved, pairList, moved}
+use Rattle.lists.proofs.ListLaws.{moved-by-counts, pair-counts, next-part}
 use Rattle.gather.specs.Shown.{siblingAt, slotsShown, wayShown}
 use Rattle.gather.proofs.ShownLaws.{bucketsIn, whole-of-part, siblings-at}
 use Rattle.mend.specs.Mended.{pathWords, besideAt}

@@ -3,7 +3,7 @@
 // Stands on `settle`, `work`, `damage`, `mend` and what is below.
 ghost use mathlib.Core.List.{_++_};
 ghost use Prim.Native.Nat.{_*_, _-_};
-ghost use Rattle.path.specs.BucketList.{wordsMoved, pairList};
+ghost use Rattle.lists.specs.BucketList.{wordsMoved, pairList};
 ghost use Rattle.settle.specs.Left.{insertion, insertionDamaged};
 ghost use Rattle.settle.specs.Settled.{Prepares, Settles};
 ghost use Rattle.settle.specs.Room.{InsertionRoom, InsertionScratch};

@@ -14,7 +14,7 @@ use Rattle.record.specs.Words.{words4, written}
 use Rattle.record.proofs.WordsLaws.{take-written}
 use Rattle.path.specs.declared.sizes.Sizes.{Sizes}
 use Rattle.path.specs.Layout.{bucketWords}
-use Rattle.path.proofs.ListLaws.{next-part}
+use Rattle.lists.proofs.ListLaws.{next-part}
 use Rattle.mend.specs.Stored.{Stored}
 
 -- ---- a part takes other words: the first k are copied

@@ -5,7 +5,7 @@ use Rattle.record.specs.Many.{every, reals, bears, stampTwice}
 use Rattle.record.specs.Order.{noLater, smallerBy, smallestBy}
 use Rattle.record.specs.Standing.{same, isDummy, known, isProper, mayStand}
 use Rattle.record.specs.Words.{records, wordsOf}
-use Rattle.path.specs.BucketList.{pairList, pathList, sum, wordsMoved}
+use Rattle.lists.specs.BucketList.{pairList, pathList, sum, wordsMoved}
 use Rattle.path.specs.Path.{pathBucket, holds, siblingOf, upFrom, path}
 use Rattle.path.specs.Sizes.{between, treeIn, inRange}
 use Rattle.refusal.specs.Refusal.{firstGiven}

@@ -4,7 +4,7 @@ use mathlib.Core.List.{List, [], _∷_, _++_}
 use lib.ListN.{length, replicate, drop}
 use Rattle.path.specs.Path.{bucket}
 use Rattle.path.specs.Layout.{recordWords}
-use Rattle.path.specs.BucketList.{numbers}
+use Rattle.lists.specs.BucketList.{numbers}
 use Rattle.rack.specs.Copy.{bucketPart}
 use Rattle.request.specs.declared.Waiting.{Waiting}
 use Rattle.card.specs.Calls.{listOf}

@@ -9,7 +9,7 @@ use lib.Seq.{take-at, drop-at, drop-drop}
 use Rattle.record.specs.declared.Bucket.{Bucket}
 use Rattle.path.specs.Path.{bucket}
 use Rattle.path.specs.Layout.{recordWords, bucketWords}
-use Rattle.path.specs.BucketList.{BucketList}
+use Rattle.lists.specs.BucketList.{BucketList}
 use Rattle.rack.specs.Answers.{wordsFor}
 use Rattle.rack.specs.Copy.{partOf, bucketPart, leastPart, fetchedWords, fetched, AllStand}
 use Rattle.rack.proofs.LayoutLaws.{part-length, parts-length}

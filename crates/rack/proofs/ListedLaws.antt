@@ -14,9 +14,9 @@ use Rattle.record.specs.declared.Leaf.{Leaf}
 use Rattle.path.specs.Path.{bucket, number, pathBucket, siblingOf, upFrom, path}
 use Rattle.path.specs.Sizes.{leavesOf, treeIn}
 use Rattle.path.specs.Layout.{treeWords}
-use Rattle.path.specs.BucketList.{BucketList, pairList, pathList, numbers, laid, counts}
+use Rattle.lists.specs.BucketList.{BucketList, pairList, pathList, numbers, laid, counts}
 use Rattle.path.proofs.PathLaws.{path-in-tree, sibling-in-tree, levels-apart, pair-apart}
-use Rattle.path.proofs.Naming.{path-named, siblings-named}
+use Rattle.lists.proofs.Naming.{path-named, siblings-named}
 use Rattle.refusal.specs.Refusal.{firstGiven}
 use Rattle.rack.specs.Answers.{wordsFor, outside, anyOutside, copyTable}
 use Rattle.rack.specs.Copy.{listed}

@@ -10,7 +10,7 @@ use lib.Seq.{length-take-le, take-all, take-at, drop-cons, drop-drop}
 use borrow.Rule.Slice.PartMut.{putMid, mid-len, same-len-mid}
 use Rattle.path.specs.Path.{bucket}
 use Rattle.path.specs.Layout.{recordWords, bucketWords, bucketStart}
-use Rattle.path.proofs.ListLaws.{next-part}
+use Rattle.lists.proofs.ListLaws.{next-part}
 use Rattle.rack.specs.Answers.{wordsFor}
 use Rattle.rack.specs.Copy.{partOf, bucketPart, leastPart, listed, fetched, stored, Stands, AllStand}
 use Rattle.rack.proofs.LayoutLaws.{parts-length}

@@ -15,7 +15,7 @@ use Rattle.record.proofs.WordsLaws.{words-length, words-records, records-words,
 use Rattle.path.specs.Path.{bucket, number}
 use Rattle.path.specs.Sizes.{leavesOf}
 use Rattle.path.specs.Layout.{recordWords, bucketWords, bucketStart, treeWords, freshTree}
-use Rattle.path.specs.BucketList.{BucketList}
+use Rattle.lists.specs.BucketList.{BucketList}
 use Rattle.rack.specs.Copy.{bucketPart, leastPart, fetchedWords, stored, Stands, AllStand}
 use Rattle.path.specs.Layout.{Contents}
 use Rattle.rack.specs.BucketAt.{contentsOf, recordsIn, bucketAt}

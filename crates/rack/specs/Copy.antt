@@ -6,7 +6,7 @@ use lib.Seq.{paste}
 use Rattle.record.specs.declared.Bucket.{Bucket}
 use Rattle.path.specs.Path.{bucket, number}
 use Rattle.path.specs.Layout.{recordWords, bucketWords, bucketStart}
-use Rattle.path.specs.BucketList.{BucketList}
+use Rattle.lists.specs.BucketList.{BucketList}
 
 -- the first n words of a bucket
 abbrev pub partOf : ℕ → ℕ → List ℕ → Bucket → List ℕ

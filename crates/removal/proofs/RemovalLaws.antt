@@ -12,8 +12,8 @@ use Rattle.record.specs.Standing.{dummy}
 use Rattle.record.specs.Words.{records}
 use Rattle.path.specs.declared.sizes.Sizes.{Sizes}
 use Rattle.path.specs.Layout.{recordWords, bucketWords}
-use Rattle.path.specs.BucketList.{wordsMoved, pathList, moved}
-use Rattle.path.proofs.ListLaws.{moved-by-counts, path-counts}
+use Rattle.lists.specs.BucketList.{wordsMoved, pathList, moved}
+use Rattle.lists.proofs.ListLaws.{moved-by-counts, path-counts}
 use Rattle.gather.proofs.ShownLaws.{bucketsIn, whole-of-part, siblings-at}
 use Rattle.mend.specs.Mended.{pathWords}
 use Rattle.mend.specs.Stored.{StoreRoom}

@@ -6,10 +6,10 @@ ghost use mathlib.Core.Path.{_≡_};
 ghost use Prim.Native.Nat.{_≤_, _*_};
 ghost use lib.ListN.{length};
 ghost use Rattle.record.specs.Words.{records};
-ghost use Rattle.path.specs.BucketList.{fetchedFor};
+ghost use Rattle.lists.specs.BucketList.{fetchedFor};
 ghost use Rattle.refusal.specs.Refusal.{firstGiven};
 ghost use Rattle.request.specs.Tables.{insertRows, extractRows, deleteRows, requestRows, waits, countsFor};
-use path::Listed;
+use lists::Listed;
 use path::Sizes;
 use path::leaves;
 use record::DUMMY_KEY;
@@ -161,9 +161,9 @@ pub fn counts_for(sizes: Sizes, request: Waiting) -> Listed
             label: _,
             first: _,
             second: _,
-        } => sizes.pair_counts(),
-        Waiting::Extract => sizes.path_counts(),
-        Waiting::Delete { label: _, stamp: _ } => sizes.path_counts(),
+        } => lists::pair_counts(sizes),
+        Waiting::Extract => lists::path_counts(sizes),
+        Waiting::Delete { label: _, stamp: _ } => lists::path_counts(sizes),
     }
 }
 

@@ -5,7 +5,7 @@ ghost use Rattle.rounds.specs.Round.{countsIn};
 use card::Answer;
 use card::Card;
 use card::Done;
-use path::Listed;
+use lists::Listed;
 
 // The number of a refusal; 0 for none.
 pub(crate) fn number(answer: Answer) -> u64

@@ -6,7 +6,7 @@ ghost use Rattle.rounds.specs.Round.{countsIn, Carries};
 use crate::answer;
 use card::Card;
 use card::Done;
-use path::Listed;
+use lists::Listed;
 
 // The most words that are fetched: 32 whole buckets of 24 words, and 30 least records.
 const WORDS_MOST: usize = 888;

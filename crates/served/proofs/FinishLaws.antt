@@ -11,7 +11,7 @@ use Rattle.record.specs.declared.Record.{Record}
 use Rattle.record.specs.Standing.{dummyKey, recordOf, isProper, same}
 use Rattle.record.proofs.StandingLaws.{true-proper, below-known}
 use Rattle.path.specs.Sizes.{leavesOf}
-use Rattle.path.specs.BucketList.{pathList, pairList}
+use Rattle.lists.specs.BucketList.{pathList, pairList}
 use Rattle.path.proofs.SizesLaws.{in-range}
 use Rattle.gather.specs.Removal.{named, found}
 use Rattle.refusal.specs.Refusal.{firstGiven}

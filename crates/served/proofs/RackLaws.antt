@@ -11,7 +11,7 @@ use Rattle.record.specs.declared.Stamp.{Stamp}
 use Rattle.record.specs.declared.Record.{Record}
 use Rattle.path.specs.Sizes.{treeIn, inRange}
 use Rattle.path.specs.Layout.{treeWords}
-use Rattle.path.specs.BucketList.{BucketList, numbers, laid, counts}
+use Rattle.lists.specs.BucketList.{BucketList, numbers, laid, counts}
 use Rattle.path.proofs.SizesLaws.{in-range}
 use Rattle.rack.specs.declared.Answer.{Answer}
 use Rattle.rack.specs.Answers.{answerNumber, wordsFor, anyOutside, copyRefusal}

@@ -14,7 +14,7 @@ use Rattle.record.specs.Words.{records}
 use Rattle.record.proofs.WordsLaws.{records-take, records-drop}
 use Rattle.path.specs.Path.{bucket}
 use Rattle.path.specs.Layout.{recordWords, bucketWords, bucketStart}
-use Rattle.path.specs.BucketList.{BucketList}
+use Rattle.lists.specs.BucketList.{BucketList}
 use Rattle.gather.specs.Shown.{wholeAt, siblingAt}
 use Rattle.gather.proofs.ShownLaws.{whole-records}
 use Rattle.rack.specs.Answers.{wordsFor}

@@ -14,7 +14,7 @@ use Rattle.record.specs.Standing.{isDummy}
 use Rattle.path.specs.declared.sizes.Sizes.{Sizes}
 use Rattle.path.specs.Path.{pathBucket, upFrom}
 use Rattle.path.specs.Layout.{Contents, treeWords}
-use Rattle.path.specs.BucketList.{pairList}
+use Rattle.lists.specs.BucketList.{pairList}
 use Rattle.way.specs.Evict.{seek}
 use Rattle.way.specs.Least.{mendedAt}
 use Rattle.gather.specs.Shown.{slotsShown, wayShown}

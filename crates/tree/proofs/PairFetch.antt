@@ -12,9 +12,9 @@ use Rattle.record.specs.declared.Bucket.{Bucket}
 use Rattle.record.specs.declared.Record.{Record}
 use Rattle.path.specs.Path.{bucket, number, pathBucket, siblingOf, path}
 use Rattle.path.specs.Layout.{Contents, treeWords}
-use Rattle.path.specs.BucketList.{BucketList, pairList}
+use Rattle.lists.specs.BucketList.{BucketList, pairList}
 use Rattle.path.proofs.PathLaws.{path-root, path-in-tree, sibling-in-tree, path-at}
-use Rattle.path.proofs.ListLaws.{length-path, length-siblings}
+use Rattle.lists.proofs.ListLaws.{length-path, length-siblings}
 use Rattle.gather.specs.Shown.{wholeAt, siblingAt, slotsShown, wayShown}
 use Rattle.rack.specs.Copy.{fetched, AllStand}
 use Rattle.rack.specs.BucketAt.{bucketAt}

@@ -13,9 +13,9 @@ use Rattle.record.specs.declared.Record.{Record}
 use Rattle.path.specs.Sizes.{leavesOf}
 use Rattle.path.specs.Path.{bucket, number, root, pathBucket, upFrom, path}
 use Rattle.path.specs.Layout.{Contents, bucketWords, treeWords, contentsWords}
-use Rattle.path.specs.BucketList.{BucketList, pairList}
+use Rattle.lists.specs.BucketList.{BucketList, pairList}
 use Rattle.path.proofs.PathLaws.{path-root, path-at}
-use Rattle.path.proofs.ListLaws.{length-path}
+use Rattle.lists.proofs.ListLaws.{length-path}
 use Rattle.mend.specs.Mended.{pathWords}
 use Rattle.mend.proofs.PartLaws.{length-buckets}
 use Rattle.rack.specs.Copy.{stored, AllStand}

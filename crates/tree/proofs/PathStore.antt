@@ -14,9 +14,9 @@ use Rattle.record.proofs.WordsLaws.{records-words}
 use Rattle.path.specs.Sizes.{leavesOf}
 use Rattle.path.specs.Path.{bucket, number, root, pathBucket, upFrom, path}
 use Rattle.path.specs.Layout.{Contents, bucketWords, treeWords}
-use Rattle.path.specs.BucketList.{pathList}
+use Rattle.lists.specs.BucketList.{pathList}
 use Rattle.path.proofs.PathLaws.{path-root, path-at}
-use Rattle.path.proofs.ListLaws.{length-path}
+use Rattle.lists.proofs.ListLaws.{length-path}
 use Rattle.mend.specs.Mended.{pathWords}
 use Rattle.mend.proofs.PartLaws.{length-buckets, bucket-part}
 use Rattle.rack.specs.Copy.{stored, AllStand}

@@ -14,8 +14,8 @@ use Rattle.record.specs.declared.Record.{Record}
 use Rattle.path.specs.declared.sizes.Sizes.{Sizes}
 use Rattle.path.specs.Sizes.{leavesOf}
 use Rattle.path.specs.Layout.{treeWords}
-use Rattle.path.specs.BucketList.{pathList}
-use Rattle.path.proofs.ListLaws.{length-path}
+use Rattle.lists.specs.BucketList.{pathList}
+use Rattle.lists.proofs.ListLaws.{length-path}
 use Rattle.way.specs.Least.{mendedAt}
 use Rattle.way.proofs.EvictLaws.{length-evict}
 use Rattle.way.proofs.LeastLaws.{length-slots}

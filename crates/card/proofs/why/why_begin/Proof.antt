@@ -4,7 +4,7 @@ use Prim.Native.Nat.{_≤_, _<_, _+_}
 use mathlib.Core.List.{List}
 use mathlib.Core.Path.{_≡_, sym, ap, _∙_}
 use Rattle.record.specs.declared.Record.{Record}
-use Rattle.path.specs.declared.list.Listed.{Listed}
+use Rattle.lists.specs.declared.Listed.{Listed}
 use Rattle.path.proofs.SizesLaws.{in-range}
 use Rattle.refusal.specs.Refusal.{firstGiven}
 use Rattle.request.specs.Tables.{requestRows}

@@ -3,8 +3,8 @@ use native.Mathlib.Omega.{arith}
 use mathlib.Core.Path.{_≡_, sym, ap, _∙_}
 use borrow.Author.Tests.{not-true, not-false}
 use Rattle.path.proofs.SizesLaws.{in-range}
-use Rattle.path.specs.BucketList.{fetchedFor}
-use Rattle.path.specs.declared.list.Listed.{Listed}
+use Rattle.lists.specs.BucketList.{fetchedFor}
+use Rattle.lists.specs.declared.Listed.{Listed}
 use Rattle.refusal.specs.Refusal.{firstGiven}
 use Rattle.card.specs.Finish.{entryTable}
 use Rattle.card.proofs.GoodLaws.{good}

@@ -5,9 +5,9 @@ use mathlib.Core.List.{List, [], _∷_, _++_, map}
 use lib.ListN.{length, drop}
 use Rattle.record.specs.declared.Leaf.{Leaf}
 use Rattle.record.specs.declared.Bucket.{Bucket}
-use Rattle.path.specs.declared.list.Listed.{Listed}
+use Rattle.lists.specs.declared.Listed.{Listed}
 use Rattle.path.specs.Path.{number, path, siblingOf}
 use Rattle.path.specs.Layout.{recordWords, bucketWords}
 
 -- the buckets asked for whole, and those asked for their least record only
 pub record BucketList : Type 0 where

@@ -2,8 +2,8 @@ use borrow.Author.Needs.{needs}
 use native.Mathlib.Omega.{arith}
 use Prim.Native.Nat.{_+_, _*_, _-_, _≤_}
 use mathlib.Core.Path.{_≡_}
-use Rattle.path.proofs.list.Listed.words_moved.Statement.{statement}
-use Rattle.path.proofs.list.Listed.words_moved.Tie as tie
+use Rattle.lists.proofs.Listed.words_moved.Statement.{statement}
+use Rattle.lists.proofs.Listed.words_moved.Tie as tie
 
 abbrev Inv-loop : tie.InvT-loop
 Inv-loop self z bucket words₀ counter₀ end words counter = (counter ≤ end) × ((words ≤ 48 * counter) × (words ≡ counter * (2 * bucket)))

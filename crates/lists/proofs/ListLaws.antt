@@ -9,11 +9,11 @@ use lib.Seq.{take-at, drop-at}
 use borrow.Rule.Slice.PartMut.{putMid, post-is}
 use Rattle.record.specs.declared.Leaf.{Leaf}
 use Rattle.record.specs.declared.Bucket.{Bucket}
-use Rattle.path.specs.declared.list.Listed.{Listed}
+use Rattle.lists.specs.declared.Listed.{Listed}
 use Rattle.path.specs.Path.{number, pathBucket, siblingOf, upFrom, path}
 use Rattle.path.specs.Layout.{recordWords, bucketWords}
-use Rattle.path.specs.BucketList.{BucketList, pairList, pathList, numbers, laid, counts, pairCounts, pathCounts, sum, wordsMoved, moved}
-use Rattle.path.proofs.Naming.{length-upFrom}
+use Rattle.lists.specs.BucketList.{BucketList, pairList, pathList, numbers, laid, counts, pairCounts, pathCounts, sum, wordsMoved, moved}
+use Rattle.lists.proofs.Naming.{length-upFrom}
 
 -- how long a path is, from level d on
 pub length-path : (h : ℕ) (q : Leaf) (d : ℕ) → length (path h q d) ≡ suc h - d

@@ -3,16 +3,16 @@ use native.Mathlib.Omega.{arith}
 use Prim.Native.Nat.{suc, _-_}
 use mathlib.Core.Path.{ap, _∙_}
 use lib.ListN.{length}
 use Rattle.path.specs.Path.{pathBucket, siblingOf, number}
-use Rattle.path.proofs.Naming.{Naming, naming-starts, naming-turns, naming-ends, siblings-named}
-use Rattle.path.proofs.sizes.Sizes.name_siblings.Statement.{statement}
-use Rattle.path.proofs.sizes.Sizes.name_siblings.Tie as tie
+use Rattle.lists.proofs.Naming.{Naming, naming-starts, naming-turns, naming-ends, siblings-named}
+use Rattle.lists.proofs.name_siblings.Statement.{statement}
+use Rattle.lists.proofs.name_siblings.Tie as tie
 
 abbrev Inv-loop : tie.InvT-loop
-Inv-loop self leaf from list₀ level₀ i₀ list level i = Naming (λ d. number (siblingOf (pathBucket (self .h) leaf d))) from list₀ list i level
+Inv-loop sizes leaf from list₀ level₀ i₀ list level i = Naming (λ d. number (siblingOf (pathBucket (sizes .h) leaf d))) from list₀ list i level
 
 abbrev μ-loop : tie.MeasureT-loop
-μ-loop self leaf from list₀ level₀ i₀ list level i = length list₀ - i
+μ-loop sizes leaf from list₀ level₀ i₀ list level i = length list₀ - i
 
 loop-holds : tie.Need-loop-holds Inv-loop μ-loop
 loop-holds c = naming-starts _ _ _
@@ -48,7 +48,7 @@ same-length c = c .before .loop .inv .room
 returns : tie.Need-returns Inv-loop μ-loop
 returns c =
     let s = c .before .before .before .args in
-    naming-ends _ _ _ _ _ _ (suc (s .self .h) - s .from) (c .before .loop .inv) (c .loop-test .left) (omega arith) ∙ siblings-named _ _ _
+    naming-ends _ _ _ _ _ _ (suc (s .sizes .h) - s .from) (c .before .loop .inv) (c .loop-test .left) (omega arith) ∙ siblings-named _ _ _
 
 pub name-siblings-spec : {M : Type 1} → statement M
 name-siblings-spec =
