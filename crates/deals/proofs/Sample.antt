@@ -35,7 +35,7 @@ use Rattle.request.specs.Tables.{countsFor}
 use Rattle.card.specs.Calls.{listOf, beginTable, minTable}
 use Rattle.card.specs.Finish.{leftBy, damagedBy, entryTable, finishedBy}
 use Rattle.request.specs.Tables.{insertRows, extractRows, deleteRows, requestRows, waits}
-use Rattle.demands.specs.Queue.{Queue, leastOf, has, takenOut, next}
+use Rattle.demands.specs.Queue.{Queue, leastEvent, has, takenOut, next}
 use Rattle.demands.specs.World.{freshWorld, Asked, insert, extract, delete, Call, begin, finish, findMin, Outcome, step, outcomes}
 use Rattle.demands.specs.Says.{asks as wants}
 use Rattle.deals.specs.Trace.{Seen, seen, trace, untilOverflow}
@@ -174,7 +174,7 @@ unfolding every reals bears stampTwice noLater smallerBy smallestBy same isDummy
     pathWords pathBuckets rootAfter leastAfter seated sound pathSound siblingsSound kidsShown leastsTrue pathDamaged
     pairDamaged removal insertion removalDamaged insertionDamaged anyOutside stored orRefused badCard listOf
     beginTable minTable countsFor leftBy damagedBy entryTable finishedBy insertRows extractRows deleteRows
-    requestRows waits step outcomes flatMap seen trace untilOverflow deal paired leaving leastOf has takenOut labels labelled clean
+    requestRows waits step outcomes flatMap seen trace untilOverflow deal paired leaving leastEvent has takenOut labels labelled clean
 worked =
     let key : (n : ℕ) → n ≤ 7 → n < dummyKey = λ n h. omega arith in (
       record {

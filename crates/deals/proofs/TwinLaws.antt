@@ -14,7 +14,7 @@ use Rattle.request.specs.declared.Waiting.the-variants.{Insert, Extract, Delete
 use Rattle.demands.specs.Queue.{Queue, next}
 use Rattle.demands.specs.World.{World, Asked, insert, extract, delete, Call, begin, finish, withdraw, findMin, step}
 use Rattle.demands.specs.Says.{asks}
-use Rattle.deals.specs.Trace.{number}
+use Rattle.deals.specs.Trace.{numberGiven}
 use Rattle.deals.specs.Sequences.{Kind, inserts, extracts, deletes, finishes, withdraws, looks, kindAsked, kindOf, well, clean, unlabelled, Fair, Valid, none, look, request}
 use Rattle.deals.proofs.RoundLaws.{passes-well, Idle, begunBy, doneBy, Round, round, look-idle}
 
@@ -63,7 +63,7 @@ begins-one (delete {label} {stamp}) c e = shaped deletes c e label stamp
 -- ---- two sequences side by side: the world and the plain queue of the first, the plain queue of the second without labels
 pub data Twin (s : Sizes) : World → Queue → Queue → List Call → List Call → Type 0 where
   ended : {u : World} {q p : Queue} → Idle u q → Twin s u q p [] []
-  looked : {u : World} {q p : Queue} {cs ds : List Call} → Idle u q → number (step u findMin) ≡ 0
+  looked : {u : World} {q p : Queue} {cs ds : List Call} → Idle u q → numberGiven (step u findMin) ≡ 0
       → Twin s (step u findMin .world) q p cs ds → Twin s u q p (findMin ∷ cs) (findMin ∷ ds)
   taken : {u : World} {q p : Queue} {w x : Waiting} {asked : Asked w} {asked′ : Asked x} {places words places′ words′ : List ℕ}
       {cs ds : List Call} → OneKind w x → Round u q asked places words → well (doneBy u asked places words .answer) ≡ true

@@ -51,8 +51,8 @@ abbrev pub none : Left → List ℕ
 none l = []
 
 -- the words of a bucket's slots, Z being 1
-abbrev pub slotsIn : ℕ → Left → List ℕ
-slotsIn n l = drop recordWords (bucketPart 1 (l .tree) (bucket n))
+abbrev pub slotsOfBucket : ℕ → Left → List ℕ
+slotsOfBucket n l = drop recordWords (bucketPart 1 (l .tree) (bucket n))
 
 -- how many buckets a request asks for whole and how many for least records, and their numbers
 abbrev pub asks : Waiting → Left → List ℕ
