@@ -24,7 +24,8 @@ use Rattle.way.specs.Least.{slotsAt, inOrder, kids}
 use Rattle.gather.specs.Removal.{named, found, removed}
 use Rattle.gather.specs.Shown.{wholeAt, siblingAt, siblingsShown, slotsShown, wayShown}
 use Rattle.mend.specs.Mended.{pathWords}
-use Rattle.work.specs.Work.{pathBuckets, rootAfter, leastAfter, seated}
+use Rattle.work.specs.PathWork.{pathBuckets, rootAfter, leastAfter}
+use Rattle.work.specs.PairWork.{seated}
 use Rattle.damage.specs.Damage.{sound, pathSound, siblingsSound, kidsShown, leastsTrue}
 use Rattle.damage.specs.Damaged.{pathDamaged, pairDamaged}
 use Rattle.settle.specs.Left.{removal, insertion, removalDamaged, insertionDamaged}

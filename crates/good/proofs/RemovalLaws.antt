@@ -17,7 +17,7 @@ use Rattle.lists.specs.BucketList.{pathList}
 use Rattle.gather.specs.Removal.{found}
 use Rattle.gather.specs.Shown.{siblingsShown, wayShown}
 use Rattle.mend.specs.Mended.{pathWords}
-use Rattle.work.specs.Work.{removalBuckets, removalRoot, removalLeast, rooted}
+use Rattle.work.specs.RemovalWork.{removalBuckets, removalRoot, removalLeast, rooted}
 use Rattle.damage.specs.Damaged.{pathFetched, pathDamaged}
 use Rattle.damage.proofs.FetchedLaws.{path-alike}
 use Rattle.rack.specs.Copy.{fetched, stored}

@@ -25,7 +25,9 @@ use Rattle.damage.specs.Room.{Room}
 use Rattle.damage.specs.Damaged.{fetchedIn, firstFetched, secondFetched, pairDamaged}
 use Rattle.damage.proofs.FetchedLaws.{Alike, pair-alike}
 use Rattle.judge.specs.BadParts.{stampOf, badParts}
-use Rattle.work.specs.Work.{belowFirst, firstSiblings, secondSiblings, rootAfter, PairShown, PairWorked}
+use Rattle.shown.specs.PairShown.{belowFirst, PairShown}
+use Rattle.work.specs.PairWork.{firstSiblings, secondSiblings, PairWorked}
+use Rattle.work.specs.PathWork.{rootAfter}
 use Rattle.work.proofs.BesideLaws.{pair-same}
 use Rattle.settle.specs.declared.Settled.{Settled}
 use Rattle.settle.specs.Left.{Left, pathWay, insertion, insertionDamaged}

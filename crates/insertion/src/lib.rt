@@ -44,7 +44,7 @@ fn prepare_insertion(
     requires { ⌜ (InsertionRoom sizes t c first second (now words)) × (InsertionScratch sizes (now w) (now «one_sibs») (now «two_sibs») (now all) (now one) (now two)) ⌝ }
     ensures { λ out. ⌜ Prepares root least c (insertionDamaged sizes t c root least (now (words .entry)) first second new) (insertion sizes c root (now (words .entry)) first second new) (2 * (sizes .h - 1)) (now (one .exit) ++ now (two .exit)) out ⌝ }
 {
-    let moved = work::show_pair(w, one_sibs, two_sibs, all, root, words, sizes);
+    let moved = shown::show_pair(w, one_sibs, two_sibs, all, root, words, sizes);
     let half = one.len();
     let whole = half + half;
     if damage::pair_damaged(

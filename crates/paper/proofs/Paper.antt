@@ -17,7 +17,8 @@ use Rattle.gather.specs.Shown.{wholeAt, siblingAt, siblingsShown, slotsShown, w
 use Rattle.mend.specs.Mended.{pathWords}
 use Rattle.damage.specs.Damage.{sound, pathSound, siblingsSound, kidsShown, leastsTrue}
 use Rattle.damage.specs.Damaged.{pathDamaged, pairDamaged}
-use Rattle.work.specs.Work.{pathBuckets, rootAfter, leastAfter, seated}
+use Rattle.work.specs.PathWork.{pathBuckets, rootAfter, leastAfter}
+use Rattle.work.specs.PairWork.{seated}
 use Rattle.judge.specs.BadParts.{oddLeast, badParts}
 use Rattle.settle.specs.Left.{removal, insertion, removalDamaged, insertionDamaged}
 use Rattle.card.specs.Answers.{orRefused}

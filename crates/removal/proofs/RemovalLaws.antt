@@ -22,7 +22,8 @@ use Rattle.damage.specs.Damaged.{fetchedIn, pathFetched, pathDamaged}
 use Rattle.damage.proofs.FetchedLaws.{Alike, path-alike}
 use Rattle.judge.specs.BadParts.{stampOf, badParts}
 use Rattle.work.specs.declared.removal.Removed.{Removed}
-use Rattle.work.specs.Work.{PathShown, PathRemoved}
+use Rattle.shown.specs.PathShown.{PathShown}
+use Rattle.work.specs.RemovalWork.{PathRemoved}
 use Rattle.settle.specs.declared.Settled.{Settled}
 use Rattle.settle.specs.Left.{Left, pathWay, pathSiblings, removal, removalDamaged}
 use Rattle.settle.specs.Room.{RemovalRoom}

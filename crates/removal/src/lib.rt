@@ -54,7 +54,7 @@ fn prepare_removal(
     requires { ⌜ (RemovalRoom sizes t c label (now words)) × (RemovalScratch sizes (now w) (now sibs) (now path)) ⌝ }
     ensures { λ out. ⌜ Prepares root least c (removalDamaged sizes t c root least (now (words .entry)) label (named label stamp)) (removal sizes c root (now (words .entry)) label (named label stamp)) (sizes .h) (now (path .exit)) out ⌝ }
 {
-    let moved = work::show_path(w, sibs, root, words, sizes);
+    let moved = shown::show_path(w, sibs, root, words, sizes);
     let buckets = path.len();
     if damage::path_damaged(&words[0..buckets], sibs, w, sizes, label, Stamp(t), least) {
         return unsettled(root, least, c);

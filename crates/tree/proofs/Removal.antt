@@ -24,7 +24,8 @@ use Rattle.gather.specs.Shown.{siblingsShown, wayShown}
 use Rattle.gather.proofs.RemovalLaws.{removed-length}
 use Rattle.gather.proofs.ShownLaws.{way-length}
 use Rattle.mend.specs.Mended.{pathWords, besideAt}
-use Rattle.work.specs.Work.{evicted, slotsAfter, pathBuckets, rootAfter, leastAfter, removalBuckets, removalRoot, removalLeast, rooted}
+use Rattle.work.specs.PathWork.{evicted, slotsAfter, pathBuckets, rootAfter, leastAfter}
+use Rattle.work.specs.RemovalWork.{removalBuckets, removalRoot, removalLeast, rooted}
 use Rattle.work.proofs.BesideLaws.{kids-same, mended-same}
 use Rattle.rack.specs.Copy.{fetched, stored}
 use Rattle.tree.specs.Tree.{Tree, Alike, wayOf, besideOf, treeOf}

@@ -39,10 +39,10 @@ use Rattle.mend.proofs.write_path.Kinds as write-path-kinds
 use Rattle.mend.proofs.write_path.Reads as write-path
 use Rattle.work.proofs.work_path.Kinds as work-path-kinds
 use Rattle.work.proofs.work_path.Reads as work-path
-use Rattle.work.proofs.show_path.Kinds as show-path-kinds
-use Rattle.work.proofs.show_path.Reads as show-path
-use Rattle.work.proofs.show_pair.Kinds as show-pair-kinds
-use Rattle.work.proofs.show_pair.Reads as show-pair
+use Rattle.shown.proofs.show_path.Kinds as show-path-kinds
+use Rattle.shown.proofs.show_path.Reads as show-path
+use Rattle.shown.proofs.show_pair.Kinds as show-pair-kinds
+use Rattle.shown.proofs.show_pair.Reads as show-pair
 
 full-words : (ws : List ℕ) (n : ℕ) (rs : List Record) → length ws ≡ 4 * n → records ws ≡ rs → ws ≡ wordsOf rs
 full-words ws n rs long e = sym (words-records ws n long) ∙ ap wordsOf e

@@ -13,7 +13,8 @@ use Rattle.path.specs.Path.{upFrom}
 use Rattle.path.specs.Layout.{Contents}
 use Rattle.way.specs.Least.{kids, mendedAt, mended}
 use Rattle.mend.specs.Mended.{pathWords}
-use Rattle.work.specs.Work.{slotsAfter, pathBuckets, rootAfter, leastAfter, PathWorked, firstWay, secondWay, PairWorked}
+use Rattle.work.specs.PathWork.{slotsAfter, pathBuckets, rootAfter, leastAfter, PathWorked}
+use Rattle.work.specs.PairWork.{firstWay, secondWay, PairWorked}
 
 -- buckets that are the same at some levels
 map-same : (f g : ℕ → Contents) (a n : ℕ) → ((d : ℕ) → a ≤ d → d < a + n → f d ≡ g d) → map f (upFrom a n) ≡ map g (upFrom a n)

@@ -2,4 +2,3 @@
 pub mod WorkLaws
 pub mod BesideLaws
 pub mod PairLaws
-pub mod ShownLaws

@@ -15,7 +15,8 @@ use Rattle.mend.specs.Mended.{besideAt, Mended}
 use Rattle.gather.specs.Removal.{Cleared}
 use Rattle.gather.proofs.RemovalLaws.{cleared-records}
 use Rattle.work.specs.declared.removal.Removed.{Removed}
-use Rattle.work.specs.Work.{pathBuckets, rootAfter, leastAfter, PathWorked, PathRemoved}
+use Rattle.work.specs.PathWork.{pathBuckets, rootAfter, leastAfter, PathWorked}
+use Rattle.work.specs.RemovalWork.{PathRemoved}
 
 pub path-worked :
     (s : Sizes) (q : Leaf) (B way : List Record) (w path : List ℕ) (kids x : Record)

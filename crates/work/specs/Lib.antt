@@ -1,2 +1,4 @@
 -- The work of a finish, worked out and not yet written.
-pub mod Work
+pub mod PathWork
+pub mod PairWork
+pub mod RemovalWork

@@ -4,19 +4,16 @@
 mod pair;
 mod removal;
 mod seating;
-mod shown;
 
 pub use pair::work_pair;
 pub use removal::Removed;
 pub use removal::remove_path;
 pub use seating::seat;
-pub use shown::show_pair;
-pub use shown::show_path;
 ghost use Prim.Native.Nat.{_≤_};
 ghost use mathlib.Core.Path.{_≡_};
 ghost use Rattle.record.specs.Words.{records};
 ghost use Rattle.mend.specs.Mended.{MendRoom, besideAt};
-ghost use Rattle.work.specs.Work.{PathWorked};
+ghost use Rattle.work.specs.PathWork.{PathWorked};
 use path::Sizes;
 use record::Leaf;
 use record::Record;

@@ -5,7 +5,7 @@ ghost use Prim.Native.Nat.{_*_};
 ghost use Rattle.record.specs.Words.{records};
 ghost use Rattle.gather.specs.Shown.{slotsShown};
 ghost use Rattle.mend.specs.Mended.{besideAt};
-ghost use Rattle.work.specs.Work.{PairRoom, PairWorked, secondSiblings};
+ghost use Rattle.work.specs.PairWork.{PairRoom, PairWorked, secondSiblings};
 use crate::seating::seat;
 use crate::work_path;
 use path::Sizes;

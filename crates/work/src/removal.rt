@@ -5,7 +5,7 @@ ghost use Prim.Native.Nat.{_≤_};
 ghost use Rattle.record.specs.Words.{records};
 ghost use Rattle.gather.specs.Removal.{named};
 ghost use Rattle.mend.specs.Mended.{MendRoom};
-ghost use Rattle.work.specs.Work.{PathRemoved};
+ghost use Rattle.work.specs.RemovalWork.{PathRemoved};
 use crate::work_path;
 use path::Sizes;
 use record::Leaf;

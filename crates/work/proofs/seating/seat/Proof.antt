@@ -4,7 +4,7 @@ use mathlib.Core.Path.{ap, _∙_}
 use borrow.Author.Tests.{lt-ltb, le-ltb}
 use Rattle.record.specs.Words.{records}
 use Rattle.record.proofs.WordsLaws.{records-written}
-use Rattle.work.specs.Work.{seated}
+use Rattle.work.specs.PairWork.{seated}
 use Rattle.work.proofs.seating.seat.Statement.{statement}
 use Rattle.work.proofs.seating.seat.Tie as tie
 

@@ -1,6 +1,7 @@
 // What card and fetched words show, in scratches: document 01, "Finish takes the fetched words in list order." Each
-// function answers the words moved for the siblings that it looked at.
-ghost use Rattle.work.specs.Work.{PathRoom, PathShown, SiblingRoom, SiblingsBelow, PairShownRoom, PairShown};
+// function answers the words moved for the siblings that it looked at. Stands on `record`, `path` and `gather`.
+ghost use Rattle.shown.specs.PathShown.{PathRoom, PathShown};
+ghost use Rattle.shown.specs.PairShown.{SiblingRoom, SiblingsBelow, PairShownRoom, PairShown};
 use path::Sizes;
 use record::Record;
 

@@ -15,7 +15,8 @@ use Rattle.gather.specs.Shown.{siblingsShown, slotsShown, wayShown}
 use Rattle.gather.proofs.LaidLaws.{laid-last}
 use Rattle.gather.proofs.ShownLaws.{siblings-length}
 use Rattle.gather.proofs.LoadedLaws.{way-loaded}
-use Rattle.work.specs.Work.{PathShown, PathRoom, SiblingRoom, SiblingsBelow, PairShown, PairShownRoom}
+use Rattle.shown.specs.PathShown.{PathShown, PathRoom}
+use Rattle.shown.specs.PairShown.{SiblingRoom, SiblingsBelow, PairShown, PairShownRoom}
 
 pub path-shown :
     (s : Sizes) (root : List Record) (ws w₀ b₀ w₁ w₂ b₁ : List ℕ) → PathRoom s ws w₀ b₀ → length root ≡ 64

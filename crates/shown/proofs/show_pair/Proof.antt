@@ -3,9 +3,9 @@ use native.Mathlib.Omega.{arith}
 use mathlib.Core.Path.{_≡_}
 use lib.ListN.{length}
 use Rattle.gather.proofs.RootLaws.{length-mapped}
-use Rattle.work.proofs.ShownLaws.{pair-shown}
-use Rattle.work.proofs.shown.show_pair.Statement.{statement}
-use Rattle.work.proofs.shown.show_pair.Tie as tie
+use Rattle.shown.proofs.ShownLaws.{pair-shown}
+use Rattle.shown.proofs.show_pair.Statement.{statement}
+use Rattle.shown.proofs.show_pair.Tie as tie
 
 load-root-requires : tie.Need-load-root-requires
 load-root-requires c κs = search needs

@@ -3,11 +3,11 @@ use native.Mathlib.Omega.{arith}
 use mathlib.Core.Path.{_≡_}
 use lib.ListN.{length}
 use Rattle.gather.proofs.RootLaws.{length-mapped}
-use Rattle.work.proofs.ShownLaws.{path-shown}
-use Rattle.work.proofs.shown.show_path.Statement.{statement}
-use Rattle.work.proofs.shown.show_path.Tie as tie
-use Rattle.work.proofs.shown.show_path.Reads as reads
-use Rattle.work.proofs.shown.show_path.Lts as lts
+use Rattle.shown.proofs.ShownLaws.{path-shown}
+use Rattle.shown.proofs.show_path.Statement.{statement}
+use Rattle.shown.proofs.show_path.Tie as tie
+use Rattle.shown.proofs.show_path.Reads as reads
+use Rattle.shown.proofs.show_path.Lts as lts
 use Rattle.gather.proofs.load_path.Reads as load-path-reads
 use Rattle.gather.proofs.load_root.Reads as load-root-reads
 use Rattle.gather.proofs.load_siblings.Reads as load-siblings-reads

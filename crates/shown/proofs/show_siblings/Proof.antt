@@ -1,10 +1,10 @@
 use borrow.Author.Needs.{needs}
 use native.Mathlib.Omega.{arith}
-use Rattle.work.proofs.ShownLaws.{siblings-shown}
-use Rattle.work.proofs.shown.show_siblings.Statement.{statement}
-use Rattle.work.proofs.shown.show_siblings.Tie as tie
-use Rattle.work.proofs.shown.show_siblings.Reads as reads
-use Rattle.work.proofs.shown.show_siblings.Lts as lts
+use Rattle.shown.proofs.ShownLaws.{siblings-shown}
+use Rattle.shown.proofs.show_siblings.Statement.{statement}
+use Rattle.shown.proofs.show_siblings.Tie as tie
+use Rattle.shown.proofs.show_siblings.Reads as reads
+use Rattle.shown.proofs.show_siblings.Lts as lts
 use Rattle.gather.proofs.load_siblings.Reads as load-siblings-reads
 use Rattle.record.proofs.Record.write.Reads as write-reads
 
