@@ -25,9 +25,9 @@ use Rattle.path.specs.Path.{number, pathBucket}
 use Rattle.path.specs.Layout.{Contents}
 use Rattle.way.specs.Least.{inOrder}
 use Rattle.way.specs.Evict.{seek}
-use Rattle.gather.specs.Removal.{found}
+use Rattle.clearing.specs.Removal.{found}
 use Rattle.gather.specs.Shown.{wholeAt, slotsShown, wayShown}
-use Rattle.gather.proofs.RemovalLaws.{found-passes}
+use Rattle.clearing.proofs.RemovalLaws.{found-passes}
 use Rattle.gather.proofs.ShownLaws.{way-root}
 use Rattle.damage.specs.Damage.{kidsShown}
 use Rattle.damage.specs.Damaged.{pathFetched, pathDamaged}

@@ -25,9 +25,9 @@ use Rattle.path.specs.Layout.{Contents}
 use Rattle.path.proofs.PathLaws.{sibling-off, holds-true}
 use Rattle.way.specs.Least.{slotsAt, inOrder}
 use Rattle.way.specs.Evict.{seek}
-use Rattle.gather.specs.Removal.{named, found}
+use Rattle.clearing.specs.Removal.{named, found}
 use Rattle.gather.specs.Shown.{wholeAt, wayShown}
-use Rattle.gather.proofs.RemovalLaws.{member-found, found-passes}
+use Rattle.clearing.proofs.RemovalLaws.{member-found, found-passes}
 use Rattle.gather.proofs.ShownLaws.{way-slots}
 use Rattle.damage.specs.Damage.{kidsShown}
 use Rattle.damage.specs.Damaged.{pathFetched, pathDamaged}

@@ -21,7 +21,7 @@ use Rattle.root.specs.Root.{strangeSlot, usedPast, stampShared, rootRecords, gr
 use Rattle.judge.specs.BadParts.{oddLeast, badParts}
 use Rattle.way.specs.Evict.{seek, fits, movedTo, pull, pulls, evictUp, evict}
 use Rattle.way.specs.Least.{slotsAt, inOrder, kids}
-use Rattle.gather.specs.Removal.{named, found, removed}
+use Rattle.clearing.specs.Removal.{named, found, removed}
 use Rattle.gather.specs.Shown.{wholeAt, siblingAt, siblingsShown, slotsShown, wayShown}
 use Rattle.mend.specs.Mended.{pathWords}
 use Rattle.work.specs.PathWork.{pathBuckets, rootAfter, leastAfter}

@@ -21,9 +21,9 @@ use Rattle.lists.specs.BucketList.{pathList, pairList}
 use Rattle.path.proofs.SizesLaws.{in-range}
 use Rattle.root.specs.Root.{rootFull}
 use Rattle.way.specs.Evict.{seek}
-use Rattle.gather.specs.Removal.{named, found}
+use Rattle.clearing.specs.Removal.{named, found}
 use Rattle.gather.specs.Shown.{wayShown}
-use Rattle.gather.proofs.RemovalLaws.{member-found, found-passes}
+use Rattle.clearing.proofs.RemovalLaws.{member-found, found-passes}
 use Rattle.judge.specs.BadParts.{stampOf}
 use Rattle.damage.specs.Damaged.{pathFetched, firstFetched, secondFetched, pathDamaged, pairDamaged}
 use Rattle.rack.specs.Copy.{fetched}

@@ -14,7 +14,7 @@ use Rattle.path.specs.Sizes.{leavesOf}
 use Rattle.path.specs.Path.{root as theRoot}
 use Rattle.path.specs.Layout.{Contents, treeWords}
 use Rattle.lists.specs.BucketList.{pathList}
-use Rattle.gather.specs.Removal.{found}
+use Rattle.clearing.specs.Removal.{found}
 use Rattle.gather.specs.Shown.{siblingsShown, wayShown}
 use Rattle.mend.specs.Mended.{pathWords}
 use Rattle.work.specs.RemovalWork.{removalBuckets, removalRoot, removalLeast, rooted}

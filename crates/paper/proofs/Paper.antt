@@ -12,7 +12,7 @@ use Rattle.refusal.specs.Refusal.{firstGiven}
 use Rattle.root.specs.Root.{strangeSlot, usedPast, stampShared, rootRecords, greaterThanSome, rootFull}
 use Rattle.way.specs.Evict.{seek, fits, movedTo, pull, pulls, evictUp, evict}
 use Rattle.way.specs.Least.{slotsAt, inOrder, kids}
-use Rattle.gather.specs.Removal.{named, found, removed}
+use Rattle.clearing.specs.Removal.{named, found, removed}
 use Rattle.gather.specs.Shown.{wholeAt, siblingAt, siblingsShown, slotsShown, wayShown}
 use Rattle.mend.specs.Mended.{pathWords}
 use Rattle.damage.specs.Damage.{sound, pathSound, siblingsSound, kidsShown, leastsTrue}

@@ -13,7 +13,7 @@ use Rattle.record.specs.Standing.{same, isProper}
 use Rattle.path.specs.declared.sizes.Sizes.{Sizes}
 use Rattle.path.specs.Sizes.{leavesOf}
 use Rattle.way.specs.Evict.{seek}
-use Rattle.gather.specs.Removal.{named, found, removed}
+use Rattle.clearing.specs.Removal.{named, found, removed}
 use Rattle.damage.specs.Damaged.{pathFetched, pathDamaged}
 use Rattle.damage.proofs.Found.{shown-extract-by-name}
 use Rattle.judge.specs.BadParts.{stampOf}

@@ -5,7 +5,7 @@
 ghost use mathlib.Core.Path.{_≡_};
 ghost use mathlib.Core.Bool.{cond};
 ghost use Prim.Native.Nat.{_-_};
-ghost use Rattle.gather.specs.Removal.{named};
+ghost use Rattle.clearing.specs.Removal.{named};
 ghost use Rattle.lists.specs.BucketList.{wordsMoved, pathList};
 ghost use Rattle.settle.specs.Left.{removal, removalDamaged};
 ghost use Rattle.settle.specs.Settled.{Prepares, Settles};

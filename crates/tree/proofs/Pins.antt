@@ -15,7 +15,7 @@ use Rattle.path.specs.Path.{bucket, root, pathBucket, holds, siblingOf, upFrom,
 use Rattle.path.specs.Layout.{freshTree}
 use Rattle.way.specs.Evict.{seek, fits, movedTo, pull, pulls, evictUp, evict}
 use Rattle.way.specs.Least.{slotsAt, inOrder, kids}
-use Rattle.gather.specs.Removal.{named, removed}
+use Rattle.clearing.specs.Removal.{named, removed}
 use Rattle.work.specs.PathWork.{pathBuckets, rootAfter, leastAfter}
 use Rattle.work.specs.PairWork.{seated}
 use Rattle.tree.specs.Tree.{Tree, joined, put, putAll, treeOf}

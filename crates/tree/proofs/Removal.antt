@@ -19,9 +19,9 @@ use Rattle.lists.proofs.ListLaws.{length-path}
 use Rattle.way.specs.Least.{mendedAt}
 use Rattle.way.proofs.EvictLaws.{length-evict}
 use Rattle.way.proofs.LeastLaws.{length-slots}
-use Rattle.gather.specs.Removal.{removed}
+use Rattle.clearing.specs.Removal.{removed}
 use Rattle.gather.specs.Shown.{siblingsShown, wayShown}
-use Rattle.gather.proofs.RemovalLaws.{removed-length}
+use Rattle.clearing.proofs.RemovalLaws.{removed-length}
 use Rattle.gather.proofs.ShownLaws.{way-length}
 use Rattle.mend.specs.Mended.{pathWords, besideAt}
 use Rattle.work.specs.PathWork.{evicted, slotsAfter, pathBuckets, rootAfter, leastAfter}

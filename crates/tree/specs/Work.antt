@@ -5,7 +5,7 @@ use mathlib.Core.List.{List}
 use Rattle.record.specs.declared.Leaf.{Leaf}
 use Rattle.record.specs.declared.Record.{Record}
 use Rattle.path.specs.declared.sizes.Sizes.{Sizes}
-use Rattle.gather.specs.Removal.{removed}
+use Rattle.clearing.specs.Removal.{removed}
 use Rattle.work.specs.PathWork.{pathBuckets, rootAfter, leastAfter}
 use Rattle.work.specs.PairWork.{seated}
 use Rattle.tree.specs.Tree.{Tree, wayOf, besideOf, contents, laidBack}

@@ -29,10 +29,10 @@ use Rattle.gather.proofs.load_path.Kinds as load-path-kinds
 use Rattle.gather.proofs.load_path.Reads as load-path
 use Rattle.gather.proofs.load_siblings.Kinds as load-siblings-kinds
 use Rattle.gather.proofs.load_siblings.Reads as load-siblings
-use Rattle.gather.proofs.find.Kinds as find-kinds
-use Rattle.gather.proofs.find.Reads as find
-use Rattle.gather.proofs.clear.Kinds as clear-kinds
-use Rattle.gather.proofs.clear.Reads as clear
+use Rattle.clearing.proofs.find.Kinds as find-kinds
+use Rattle.clearing.proofs.find.Reads as find
+use Rattle.clearing.proofs.clear.Kinds as clear-kinds
+use Rattle.clearing.proofs.clear.Reads as clear
 use Rattle.mend.proofs.mend_path.Kinds as mend-path-kinds
 use Rattle.mend.proofs.mend_path.Reads as mend-path
 use Rattle.mend.proofs.write_path.Kinds as write-path-kinds

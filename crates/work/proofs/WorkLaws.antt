@@ -12,8 +12,8 @@ use Rattle.way.specs.Evict.{evict}
 use Rattle.way.specs.Least.{over}
 use Rattle.way.proofs.LeastLaws.{smallest-over}
 use Rattle.mend.specs.Mended.{besideAt, Mended}
-use Rattle.gather.specs.Removal.{Cleared}
-use Rattle.gather.proofs.RemovalLaws.{cleared-records}
+use Rattle.clearing.specs.Removal.{Cleared}
+use Rattle.clearing.proofs.RemovalLaws.{cleared-records}
 use Rattle.work.specs.declared.removal.Removed.{Removed}
 use Rattle.work.specs.PathWork.{pathBuckets, rootAfter, leastAfter, PathWorked}
 use Rattle.work.specs.RemovalWork.{PathRemoved}

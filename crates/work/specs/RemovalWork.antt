@@ -10,7 +10,7 @@ use Rattle.record.specs.declared.Leaf.{Leaf}
 use Rattle.record.specs.declared.Record.{Record}
 use Rattle.path.specs.declared.sizes.Sizes.{Sizes}
 use Rattle.path.specs.Layout.{Contents}
-use Rattle.gather.specs.Removal.{found, removed}
+use Rattle.clearing.specs.Removal.{found, removed}
 use Rattle.mend.specs.Mended.{pathWords, besideAt}
 use Rattle.work.specs.declared.removal.Removed.{Removed}
 use Rattle.work.specs.PathWork.{pathBuckets, rootAfter, leastAfter}

@@ -16,9 +16,9 @@ use Rattle.record.specs.Standing.{dummy}
 use Rattle.record.specs.Words.{records, written}
 use Rattle.record.proofs.WordsLaws.{records-count, records-written}
 use Rattle.way.specs.Evict.{seek}
 use Rattle.gather.specs.Laid.{laidOver}
-use Rattle.gather.specs.Removal.{found, removed, Cleared}
+use Rattle.clearing.specs.Removal.{found, removed, Cleared}
 use Rattle.gather.proofs.LaidLaws.{laid-all, laid-length, laid-records}
 
 -- words behind a record are as they were
 drop-written : (ws : List ℕ) (p n : ℕ) (r : Record) → 4 * p + 4 ≤ n → drop n (written ws p r) ≡ drop n ws

@@ -8,9 +8,9 @@ use Rattle.record.specs.Words.{records}
 use Rattle.record.proofs.WordsLaws.{records-count}
 use Rattle.way.specs.Evict.{seek}
 use Rattle.way.proofs.EvictLaws.{seekFrom, seek-starts, seek-found, seek-turns, seek-ends}
-use Rattle.gather.specs.Removal.{named}
-use Rattle.gather.proofs.find.Statement.{statement}
-use Rattle.gather.proofs.find.Tie as tie
+use Rattle.clearing.specs.Removal.{named}
+use Rattle.clearing.proofs.find.Statement.{statement}
+use Rattle.clearing.proofs.find.Tie as tie
 
 abbrev Inv-loop : tie.InvT-loop
 Inv-loop w label stamp n i₀ i = (i ≤ n) × (seek (named label stamp) n (records w) ≡ seekFrom (named label stamp) n w i)

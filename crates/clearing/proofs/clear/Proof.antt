@@ -1,8 +1,8 @@
 -- `clear` meets its contract. Assumes nothing.
 use borrow.Author.Needs.{needs}
-use Rattle.gather.proofs.RemovalLaws.{clear-found, clear-none}
-use Rattle.gather.proofs.clear.Statement.{statement}
-use Rattle.gather.proofs.clear.Tie as tie
+use Rattle.clearing.proofs.RemovalLaws.{clear-found, clear-none}
+use Rattle.clearing.proofs.clear.Statement.{statement}
+use Rattle.clearing.proofs.clear.Tie as tie
 
 find-requires : tie.Need-find-requires
 find-requires c κs = search needs

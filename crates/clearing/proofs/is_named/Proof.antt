@@ -3,9 +3,9 @@ use borrow.Author.Needs.{needs}
 use mathlib.Core.Bool.{not, and-false, and-true}
 use mathlib.Core.Path.{ap}
 use borrow.Author.Tests.{eq-eqb, ne-eqb}
-use Rattle.gather.specs.Removal.{named}
-use Rattle.gather.proofs.is_named.Statement.{statement}
-use Rattle.gather.proofs.is_named.Tie as tie
+use Rattle.clearing.specs.Removal.{named}
+use Rattle.clearing.proofs.is_named.Statement.{statement}
+use Rattle.clearing.proofs.is_named.Tie as tie
 
 returns : tie.Need-returns
 unfolding named
