@@ -29,9 +29,11 @@ use Rattle.clearing.specs.Removal.{named, found}
 use Rattle.gather.specs.Shown.{wholeAt, wayShown}
 use Rattle.clearing.proofs.RemovalLaws.{member-found, found-passes}
 use Rattle.gather.proofs.ShownLaws.{way-slots}
-use Rattle.damage.specs.Damage.{kidsShown}
-use Rattle.damage.specs.Damaged.{pathFetched, pathDamaged}
-use Rattle.damage.proofs.SoundLaws.{sound-cases, sibling-sound-at, least-true-at}
+use Rattle.leasts.specs.Leasts.{kidsShown}
+use Rattle.sound.specs.Fetched.{pathFetched}
+use Rattle.damage.specs.Damaged.{pathDamaged}
+use Rattle.sound.proofs.SoundLaws.{sound-cases, sibling-sound-at}
+use Rattle.leasts.proofs.LevelLaws.{least-true-at}
 use Rattle.damage.proofs.DamagedLaws.{Undamaged, undamaged}
 use Rattle.damage.proofs.OnceLaws.{stamp-once, get-in}
 

@@ -3,17 +3,14 @@
 //
 // A path's checks are lent the part of the fetched words that holds its h whole buckets, and a scratch where the least
 // record of level d's sibling stands at place d - 1. The stamps are looked at in a scratch that holds all slots together.
-// Stands on `record`, `path`, `way` and the definitions of `gather`.
+// Stands on `record`, `path`, `way`, `sound` and `leasts`.
 ghost use mathlib.Core.Path.{_≡_};
 ghost use Prim.Native.Nat.{_*_, _≤_};
 ghost use lib.ListN.{length};
 ghost use Rattle.record.specs.Words.{records};
-ghost use Rattle.damage.specs.Damaged.{fetchedIn, pathDamaged, pairDamaged};
-ghost use Rattle.damage.specs.Room.{Room};
-
-mod leasts;
-mod sound;
-
+ghost use Rattle.sound.specs.Fetched.{fetchedIn};
+ghost use Rattle.damage.specs.Damaged.{pathDamaged, pairDamaged};
+ghost use Rattle.sound.specs.Room.{Room};
 use leasts::leasts_true;
 use path::Sizes;
 use record::Leaf;

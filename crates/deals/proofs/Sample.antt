@@ -24,7 +24,8 @@ use Rattle.gather.specs.Shown.{wholeAt, siblingAt, siblingsShown, slotsShown, w
 use Rattle.mend.specs.Mended.{pathWords}
 use Rattle.work.specs.PathWork.{pathBuckets, rootAfter, leastAfter}
 use Rattle.work.specs.PairWork.{seated}
-use Rattle.damage.specs.Damage.{sound, pathSound, siblingsSound, kidsShown, leastsTrue}
+use Rattle.sound.specs.Sound.{sound, pathSound, siblingsSound}
+use Rattle.leasts.specs.Leasts.{kidsShown, leastsTrue}
 use Rattle.damage.specs.Damaged.{pathDamaged, pairDamaged}
 use Rattle.settle.specs.Left.{removal, insertion, removalDamaged, insertionDamaged}
 use Rattle.rack.specs.Answers.{anyOutside}

@@ -22,7 +22,8 @@ use Rattle.mend.specs.Mended.{pathWords}
 use Rattle.work.specs.PathWork.{rootAfter, leastAfter}
 use Rattle.work.specs.PairWork.{firstBuckets, secondWay, secondBeside, secondBuckets, firstSiblings, secondSiblings}
 use Rattle.work.specs.RemovalWork.{rooted}
-use Rattle.damage.specs.Damaged.{firstFetched, secondFetched, pairDamaged}
+use Rattle.sound.specs.Fetched.{firstFetched, secondFetched}
+use Rattle.damage.specs.Damaged.{pairDamaged}
 use Rattle.damage.proofs.FetchedLaws.{pair-alike}
 use Rattle.rack.specs.Copy.{fetched, stored}
 use Rattle.tree.specs.Tree.{Tree, wayOf, treeOf}

@@ -18,7 +18,8 @@ use Rattle.clearing.specs.Removal.{found}
 use Rattle.gather.specs.Shown.{siblingsShown, wayShown}
 use Rattle.mend.specs.Mended.{pathWords}
 use Rattle.work.specs.RemovalWork.{removalBuckets, removalRoot, removalLeast, rooted}
-use Rattle.damage.specs.Damaged.{pathFetched, pathDamaged}
+use Rattle.sound.specs.Fetched.{pathFetched}
+use Rattle.damage.specs.Damaged.{pathDamaged}
 use Rattle.damage.proofs.FetchedLaws.{path-alike}
 use Rattle.rack.specs.Copy.{fetched, stored}
 use Rattle.tree.specs.Tree.{Tree, wayOf, treeOf}

@@ -21,8 +21,9 @@ use Rattle.gather.specs.Shown.{siblingAt, slotsShown, wayShown}
 use Rattle.gather.proofs.ShownLaws.{bucketsIn, whole-of-part, siblings-at}
 use Rattle.mend.specs.Mended.{pathWords, besideAt}
 use Rattle.mend.specs.Stored.{StoreRoom}
-use Rattle.damage.specs.Room.{Room}
-use Rattle.damage.specs.Damaged.{fetchedIn, firstFetched, secondFetched, pairDamaged}
+use Rattle.sound.specs.Room.{Room}
+use Rattle.sound.specs.Fetched.{fetchedIn, firstFetched, secondFetched}
+use Rattle.damage.specs.Damaged.{pairDamaged}
 use Rattle.damage.proofs.FetchedLaws.{Alike, pair-alike}
 use Rattle.judge.specs.BadParts.{stampOf, badParts}
 use Rattle.shown.specs.PairShown.{belowFirst, PairShown}

@@ -15,7 +15,8 @@ use Rattle.way.specs.Least.{slotsAt, inOrder, kids}
 use Rattle.clearing.specs.Removal.{named, found, removed}
 use Rattle.gather.specs.Shown.{wholeAt, siblingAt, siblingsShown, slotsShown, wayShown}
 use Rattle.mend.specs.Mended.{pathWords}
-use Rattle.damage.specs.Damage.{sound, pathSound, siblingsSound, kidsShown, leastsTrue}
+use Rattle.sound.specs.Sound.{sound, pathSound, siblingsSound}
+use Rattle.leasts.specs.Leasts.{kidsShown, leastsTrue}
 use Rattle.damage.specs.Damaged.{pathDamaged, pairDamaged}
 use Rattle.work.specs.PathWork.{pathBuckets, rootAfter, leastAfter}
 use Rattle.work.specs.PairWork.{seated}

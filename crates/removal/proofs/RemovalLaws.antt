@@ -17,8 +17,9 @@ use Rattle.lists.proofs.ListLaws.{moved-by-counts, path-counts}
 use Rattle.gather.proofs.ShownLaws.{bucketsIn, whole-of-part, siblings-at}
 use Rattle.mend.specs.Mended.{pathWords}
 use Rattle.mend.specs.Stored.{StoreRoom}
-use Rattle.damage.specs.Room.{Room}
-use Rattle.damage.specs.Damaged.{fetchedIn, pathFetched, pathDamaged}
+use Rattle.sound.specs.Room.{Room}
+use Rattle.sound.specs.Fetched.{fetchedIn, pathFetched}
+use Rattle.damage.specs.Damaged.{pathDamaged}
 use Rattle.damage.proofs.FetchedLaws.{Alike, path-alike}
 use Rattle.judge.specs.BadParts.{stampOf, badParts}
 use Rattle.work.specs.declared.removal.Removed.{Removed}

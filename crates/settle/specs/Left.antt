@@ -11,7 +11,8 @@ use Rattle.path.specs.Layout.{Contents}
 use Rattle.clearing.specs.Removal.{found}
 use Rattle.gather.specs.Shown.{siblingsShown, slotsShown, wayShown}
 use Rattle.mend.specs.Mended.{pathWords}
-use Rattle.damage.specs.Damaged.{pathFetched, firstFetched, secondFetched, pathDamaged, pairDamaged}
+use Rattle.sound.specs.Fetched.{pathFetched, firstFetched, secondFetched}
+use Rattle.damage.specs.Damaged.{pathDamaged, pairDamaged}
 use Rattle.judge.specs.BadParts.{stampOf, badParts}
 use Rattle.work.specs.PathWork.{rootAfter, leastAfter}
 use Rattle.work.specs.RemovalWork.{removalBuckets, removalRoot, removalLeast, rooted}
