@@ -3,7 +3,7 @@
 //
 // A path's checks are lent the part of the fetched words that holds its h whole buckets, and a scratch where the least
 // record of level d's sibling stands at place d - 1. The stamps are looked at in a scratch that holds all slots together.
-// Stands on `record`, `path`, `way`, `sound` and `leasts`.
+// Stands on `record`, `path`, `way`, `stamps`, `sound` and `leasts`.
 ghost use mathlib.Core.Path.{_≡_};
 ghost use Prim.Native.Nat.{_*_, _≤_};
 ghost use lib.ListN.{length};
@@ -40,7 +40,7 @@ pub fn path_damaged(
     if !all_sound(path, sibs, sizes, leaf, next, PATH_SIBLINGS) {
         return true;
     }
-    if way::stamp_twice(slots) {
+    if stamps::stamp_twice(slots) {
         return true;
     }
     if !leasts_true(path, sibs, sizes, leaf) {
@@ -78,7 +78,7 @@ pub fn pair_damaged(
     if !all_sound(two, two_sibs, sizes, second, next, PAIR_SIBLINGS) {
         return true;
     }
-    if way::stamp_twice(all) {
+    if stamps::stamp_twice(all) {
         return true;
     }
     if !leasts_true(one, one_sibs, sizes, first) {

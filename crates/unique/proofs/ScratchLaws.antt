@@ -15,8 +15,8 @@ use Rattle.way.proofs.least_over.Kinds as least-over-kinds
 use Rattle.way.proofs.least_over.Reads as least-over
 use Rattle.way.proofs.kids_least.Kinds as kids-least-kinds
 use Rattle.way.proofs.kids_least.Reads as kids-least
-use Rattle.way.proofs.stamp_twice.Kinds as stamp-twice-kinds
-use Rattle.way.proofs.stamp_twice.Reads as stamp-twice
+use Rattle.stamps.proofs.stamp_twice.Kinds as stamp-twice-kinds
+use Rattle.stamps.proofs.stamp_twice.Reads as stamp-twice
 use Rattle.gather.proofs.copy.Kinds as copy-kinds
 use Rattle.gather.proofs.copy.Reads as copy
 use Rattle.gather.proofs.load_root.Kinds as load-root-kinds

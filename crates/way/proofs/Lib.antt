@@ -2,6 +2,5 @@
 pub mod WayLaws
 pub mod EvictLaws
 pub mod LeastLaws
-pub mod StampLaws
 pub mod KeptLaws
 pub mod Pins

@@ -1,13 +1,10 @@
--- Small ways worked out: what the definitions of eviction, of least records and of stamps that stand twice come to. A
--- wrong order of the levels, a place left with its record or a dummy taken for a record changes one of these.
--- Assumes nothing.
+-- Small ways worked out: what the definitions of eviction and of least records come to. A wrong order of the levels or a place
+-- left with its record changes one of these. Assumes nothing.
 use Prim.Native.Nat.{ℕ, zero, suc}
-use mathlib.Core.Bool.{true, false}
 use mathlib.Core.List.{[], _∷_}
 use mathlib.Core.Path.{_≡_, refl}
 use Rattle.record.specs.declared.Leaf.{Leaf}
 use Rattle.record.specs.declared.Record.{Record}
-use Rattle.record.specs.Many.{every, bears, stampTwice}
 use Rattle.record.specs.Order.{noLater, smallerBy, smallest, smallestBy}
 use Rattle.record.specs.Standing.{dummy, isDummy, same}
 use Rattle.record.specs.Words.{record4}
@@ -57,12 +54,3 @@ roots-children = refl
 tie : smallest (inOrder (bucket 3) (record4 7 70 0 0) (record4 7 71 0 0)) ≡ record4 7 71 0 0
 unfolding inOrder smallestBy smallerBy noLater
 tie = refl
-
--- dummies have stamp 0, and so has `a`: they do not count
-dummies : stampTwice (dummy ∷ a ∷ dummy ∷ c ∷ []) ≡ false
-unfolding a c stampTwice every bears isDummy same
-dummies = refl
-
-twice : stampTwice (dummy ∷ a ∷ c ∷ a ∷ []) ≡ true
-unfolding a c stampTwice every bears isDummy same
-twice = refl

@@ -6,9 +6,7 @@
 // word (proofs/WayLaws.antt). Stands on `record` and `path`.
 mod eviction;
 mod least;
-mod stamps;
 
 pub use eviction::evict;
 pub use least::kids_least;
 pub use least::least_over;
-pub use stamps::stamp_twice;

@@ -1,4 +1,4 @@
--- `stamps::is_borne`: of the records looked at so far none has the stamp. Assumes nothing.
+-- `is_borne`: of the records looked at so far none has the stamp. Assumes nothing.
 use borrow.Author.Needs.{needs}
 use native.Mathlib.Omega.{arith}
 use Prim.Native.Nat.{_-_}
@@ -6,9 +6,9 @@ use mathlib.Core.Logic.{⊎-elim}
 use mathlib.Core.Path.{_≡_, sym, refl, _∙_}
 use borrow.Author.Tests.{not-true, not-false}
 use Rattle.record.proofs.ManyLaws.{bears-dummy, bears-own, bears-other}
-use Rattle.way.proofs.StampLaws.{borneFrom, borne-found, borne-turns, borne-ends}
-use Rattle.way.proofs.stamps.is_borne.Statement.{statement}
-use Rattle.way.proofs.stamps.is_borne.Tie as tie
+use Rattle.stamps.proofs.StampLaws.{borneFrom, borne-found, borne-turns, borne-ends}
+use Rattle.stamps.proofs.is_borne.Statement.{statement}
+use Rattle.stamps.proofs.is_borne.Tie as tie
 
 abbrev Inv-loop : tie.InvT-loop
 Inv-loop w from stamp n i₀ i = borneFrom w stamp from ≡ borneFrom w stamp i

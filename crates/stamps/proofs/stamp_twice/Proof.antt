@@ -1,4 +1,4 @@
--- `stamps::stamp_twice`: no record looked at so far has a stamp that stands again behind it. Assumes nothing.
+-- `stamp_twice`: no record looked at so far has a stamp that stands again behind it. Assumes nothing.
 use borrow.Author.Needs.{needs}
 use native.Mathlib.Omega.{arith}
 use Prim.Native.Nat.{_-_}
@@ -8,9 +8,9 @@ use borrow.Author.Tests.{not-true, not-false}
 use lib.ListN.{drop}
 use Rattle.record.specs.Many.{stampTwice}
 use Rattle.record.specs.Words.{records}
-use Rattle.way.proofs.StampLaws.{twice-found, twice-skips, twice-turns, twice-ends}
-use Rattle.way.proofs.stamps.stamp_twice.Statement.{statement}
-use Rattle.way.proofs.stamps.stamp_twice.Tie as tie
+use Rattle.stamps.proofs.StampLaws.{twice-found, twice-skips, twice-turns, twice-ends}
+use Rattle.stamps.proofs.stamp_twice.Statement.{statement}
+use Rattle.stamps.proofs.stamp_twice.Tie as tie
 
 abbrev Inv-loop : tie.InvT-loop
 Inv-loop w n i₀ i = stampTwice (records w) ≡ stampTwice (drop i (records w))
