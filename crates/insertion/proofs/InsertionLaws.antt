@@ -20,7 +20,7 @@ use Rattle.lists.proofs.ListLaws.{moved-by-counts, pair-counts, next-part}
 use Rattle.gather.specs.Shown.{siblingAt, slotsShown, wayShown}
 use Rattle.gather.proofs.ShownLaws.{bucketsIn, whole-of-part, siblings-at}
 use Rattle.mend.specs.Mended.{pathWords, besideAt}
-use Rattle.mend.specs.Stored.{StoreRoom}
+use Rattle.writing.specs.Stored.{StoreRoom}
 use Rattle.sound.specs.Room.{Room}
 use Rattle.sound.specs.Fetched.{fetchedIn, firstFetched, secondFetched}
 use Rattle.damage.specs.Damaged.{pairDamaged}

@@ -119,8 +119,8 @@ fn write_insertion(
         return out;
     }
     let half = one.len();
-    let lower = mend::write_path(words, one, sizes);
-    let upper = mend::write_path(&mut words[half..], two, sizes);
+    let lower = writing::write_path(words, one, sizes);
+    let upper = writing::write_path(&mut words[half..], two, sizes);
     let stores = lower + upper;
     Settled {
         moved: out.moved + stores,

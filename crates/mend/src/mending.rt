@@ -6,11 +6,11 @@ ghost use Prim.Native.Nat.{_+_};
 ghost use lib.ListN.{length};
 ghost use Rattle.record.specs.Words.{words4, records};
 ghost use Rattle.mend.specs.Mended.{MendRoom, Mended};
-use crate::writing::write_part;
 use path::Sizes;
 use record::Leaf;
 use record::RECORD_WORDS;
 use record::Record;
+use writing::write_part;
 
 // One bucket's words: its least record, then its slots.
 fn write_bucket(part: &mut [u64], least: Record, slots: &[u64])

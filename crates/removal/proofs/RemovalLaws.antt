@@ -16,7 +16,7 @@ use Rattle.lists.specs.BucketList.{wordsMoved, pathList, moved}
 use Rattle.lists.proofs.ListLaws.{moved-by-counts, path-counts}
 use Rattle.gather.proofs.ShownLaws.{bucketsIn, whole-of-part, siblings-at}
 use Rattle.mend.specs.Mended.{pathWords}
-use Rattle.mend.specs.Stored.{StoreRoom}
+use Rattle.writing.specs.Stored.{StoreRoom}
 use Rattle.sound.specs.Room.{Room}
 use Rattle.sound.specs.Fetched.{fetchedIn, pathFetched}
 use Rattle.damage.specs.Damaged.{pathDamaged}

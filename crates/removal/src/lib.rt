@@ -97,7 +97,7 @@ fn write_removal(
     if out.damaged {
         return out;
     }
-    let stores = mend::write_path(words, path, sizes);
+    let stores = writing::write_path(words, path, sizes);
     Settled {
         moved: out.moved + stores,
         ..out

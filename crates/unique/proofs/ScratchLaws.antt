@@ -35,8 +35,10 @@ use Rattle.clearing.proofs.clear.Kinds as clear-kinds
 use Rattle.clearing.proofs.clear.Reads as clear
 use Rattle.mend.proofs.mend_path.Kinds as mend-path-kinds
 use Rattle.mend.proofs.mend_path.Reads as mend-path
-use Rattle.mend.proofs.write_path.Kinds as write-path-kinds
-use Rattle.mend.proofs.write_path.Reads as write-path
+use Rattle.writing.proofs.write_part.Kinds as write-part-kinds
+use Rattle.writing.proofs.write_part.Reads as write-part
+use Rattle.writing.proofs.write_path.Kinds as write-path-kinds
+use Rattle.writing.proofs.write_path.Reads as write-path
 use Rattle.work.proofs.work_path.Kinds as work-path-kinds
 use Rattle.work.proofs.work_path.Reads as work-path
 use Rattle.shown.proofs.show_path.Kinds as show-path-kinds
@@ -111,6 +113,11 @@ pub one-mend-path : Determines 3 mend-path-kinds.ps mend-path-kinds.r mend-path.
 one-mend-path =
     one-answer 3 mend-path-kinds.ps mend-path-kinds.r mend-path.Asked mend-path.Learnt _ _
     (λ κs a ok x xs f p. (p .children, λ i. (p .words i, (tt, (tt, (tt, (tt, tt)))))))
+
+pub one-write-part : Determines 2 write-part-kinds.ps write-part-kinds.r write-part.Asked write-part.Learnt
+one-write-part =
+    one-answer 2 write-part-kinds.ps write-part-kinds.r write-part.Asked write-part.Learnt _ _
+    (λ κs a ok x xs f p. (refl, λ i. (p i, (tt, tt))))
 
 pub one-write-path : Determines 2 write-path-kinds.ps write-path-kinds.r write-path.Asked write-path.Learnt
 one-write-path =

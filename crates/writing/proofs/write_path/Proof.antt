@@ -1,12 +1,12 @@
--- `writing::write_path`: the buckets of the turns so far are stored, and their words counted twice. Assumes nothing.
+-- `write_path`: the buckets of the turns so far are stored, and their words counted twice. Assumes nothing.
 use borrow.Author.Needs.{needs}
 use native.Mathlib.Omega.{arith}
 use Prim.Native.Nat.{_+_, _*_, _-_}
 use mathlib.Core.Path.{refl, _∙_, sym}
 use borrow.Rule.Slice.PartMut.{mid-len}
-use Rattle.mend.proofs.StoreLaws.{Storing, storing-starts, storing-turns, storing-ends, Next, next-bucket}
-use Rattle.mend.proofs.writing.write_path.Statement.{statement}
-use Rattle.mend.proofs.writing.write_path.Tie as tie
+use Rattle.writing.proofs.StoreLaws.{Storing, storing-starts, storing-turns, storing-ends, Next, next-bucket}
+use Rattle.writing.proofs.write_path.Statement.{statement}
+use Rattle.writing.proofs.write_path.Tie as tie
 
 abbrev Inv-loop : tie.InvT-loop
 Inv-loop words₀ from size moved₀ start₀ counter₀ end words moved start counter = Storing size end from words₀ words moved start counter

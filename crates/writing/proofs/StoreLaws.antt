@@ -1,21 +1,17 @@
--- Words copied one by one, a bucket's words, and buckets stored one by one: what each loop has done so far.
--- Assumes nothing.
+-- Words copied one by one, and buckets stored one by one: what each loop has done so far. Assumes nothing.
 use Prim.Native.Nat.{ℕ, suc, _+_, _*_, _-_, _≤_, _<_}
 use mathlib.Core.List.{List, _++_, append-nil}
 use mathlib.Core.Path.{_≡_, refl, sym, ap, _∙_}
 use native.Mathlib.Nat.{suc-mul, mul-le-mul-right, mul-left-comm}
 use native.Mathlib.Numerals.{add-one}
 use native.Mathlib.Omega.{arith}
-use lib.ListN.{length, set, getD, take, drop, length-set, length-drop, drop-of-length-le}
+use lib.ListN.{length, set, getD, take, drop, length-set, drop-of-length-le}
 use lib.Seq.{set-at, drop-cons, take-suc, append-snoc, length-take-le, take-all, take-add}
 use borrow.Rule.Slice.PartMut.{putMid, midOf, same-len-mid}
-use Rattle.record.specs.declared.Record.{Record}
-use Rattle.record.specs.Words.{words4, written}
-use Rattle.record.proofs.WordsLaws.{take-written}
 use Rattle.path.specs.declared.sizes.Sizes.{Sizes}
 use Rattle.path.specs.Layout.{bucketWords}
 use Rattle.lists.proofs.ListLaws.{next-part}
-use Rattle.mend.specs.Stored.{Stored}
+use Rattle.writing.specs.Stored.{Stored}
 
 -- ---- a part takes other words: the first k are copied
 pub record Copying (from old now : List ℕ) (k : ℕ) : Type 0 where
@@ -44,14 +40,6 @@ module _ (from old : List ℕ) where
         let e : k ≡ length old = omega (arith, n .place) in
         let all = rw (← same) at (take-all (length from) from (omega arith)) in
         n .done ∙ rw (e, all, drop-of-length-le old {i = length old} (omega arith), append-nil)
-
--- ---- a bucket's words: its least record is written first, its slots behind it
-pub bucket-laid : (part now ys slots : List ℕ) (least : Record) → length part ≡ 4 + length slots
-    → now ≡ written part 0 least → ys ≡ slots → putMid 4 (length now - 4) now ys ≡ words4 least ++ slots
-bucket-laid part now ys slots least size e q =
-    let front = take-written part 0 least (omega arith) in
-    let none = drop-of-length-le (drop 4 now) {i = length now - 4} (omega (arith, length-drop 4 now)) in
-    rw (none, append-nil, q, e, front)
 
 -- ---- a path's buckets, each of `size` words: the first i are stored
 pub record Storing (size h : ℕ) (from old now : List ℕ) (moved start i : ℕ) : Type 0 where

@@ -1,13 +1,13 @@
 // The stores of a finish: document 01, "each bucket's part of the fetched words is written where it stands; sibling
-// words, and any words past the list, stay".
+// words, and any words past the list, stay". Stands on `record` and `path`.
 ghost use mathlib.Core.Path.{_≡_};
 ghost use lib.ListN.{length};
-ghost use Rattle.mend.specs.Stored.{StoreRoom, Stored};
+ghost use Rattle.writing.specs.Stored.{StoreRoom, Stored};
 use path::Sizes;
 use record::RECORD_WORDS;
 
-// The bucket writer: a part of the words, one bucket long, takes the words of another just as long.
-pub(crate) fn write_part(part: &mut [u64], from: &[u64])
+// For crates above: the bucket writer. A part of the words, one bucket long, takes the words of another just as long.
+pub fn write_part(part: &mut [u64], from: &[u64])
     requires { ⌜ length (now part) ≡ length (now from) ⌝ }
     ensures { λ _. ⌜ now (part .exit) ≡ now (from .entry) ⌝ }
 {

@@ -1,10 +1,10 @@
--- `writing::write_part`: the first k words are copied. Assumes nothing.
+-- `write_part`: the first k words are copied. Assumes nothing.
 use borrow.Author.Needs.{needs}
 use Prim.Native.Nat.{_-_}
 use lib.ListN.{length}
-use Rattle.mend.proofs.StoreLaws.{Copying, copying-starts, copying-turns, copying-ends}
-use Rattle.mend.proofs.writing.write_part.Statement.{statement}
-use Rattle.mend.proofs.writing.write_part.Tie as tie
+use Rattle.writing.proofs.StoreLaws.{Copying, copying-starts, copying-turns, copying-ends}
+use Rattle.writing.proofs.write_part.Statement.{statement}
+use Rattle.writing.proofs.write_part.Tie as tie
 
 abbrev Inv-loop : tie.InvT-loop
 Inv-loop part₀ from k₀ k-end part k = Copying from part₀ part k
