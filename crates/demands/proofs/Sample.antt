@@ -25,7 +25,7 @@ use Rattle.clearing.specs.Removal.{named, found, removed}
 use Rattle.gather.specs.Shown.{wholeAt, siblingAt, siblingsShown, slotsShown, wayShown}
 use Rattle.mend.specs.Mended.{pathWords}
 use Rattle.work.specs.PathWork.{pathBuckets, rootAfter, leastAfter}
-use Rattle.work.specs.PairWork.{seated}
+use Rattle.pair.specs.PairWork.{seated}
 use Rattle.sound.specs.Sound.{sound, pathSound, siblingsSound}
 use Rattle.leasts.specs.Leasts.{kidsShown, leastsTrue}
 use Rattle.damage.specs.Damaged.{pathDamaged, pairDamaged}

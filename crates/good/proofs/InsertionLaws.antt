@@ -20,7 +20,7 @@ use Rattle.gather.specs.Shown.{slotsShown, wayShown}
 use Rattle.gather.proofs.ShownLaws.{slots-split}
 use Rattle.mend.specs.Mended.{pathWords}
 use Rattle.work.specs.PathWork.{rootAfter, leastAfter}
-use Rattle.work.specs.PairWork.{firstBuckets, secondWay, secondBeside, secondBuckets, firstSiblings, secondSiblings}
+use Rattle.pair.specs.PairWork.{firstBuckets, secondWay, secondBeside, secondBuckets, firstSiblings, secondSiblings}
 use Rattle.work.specs.RemovalWork.{rooted}
 use Rattle.sound.specs.Fetched.{firstFetched, secondFetched}
 use Rattle.damage.specs.Damaged.{pairDamaged}

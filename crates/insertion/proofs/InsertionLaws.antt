@@ -27,9 +27,9 @@ use Rattle.damage.specs.Damaged.{pairDamaged}
 use Rattle.damage.proofs.FetchedLaws.{Alike, pair-alike}
 use Rattle.judge.specs.BadParts.{stampOf, badParts}
 use Rattle.shown.specs.PairShown.{belowFirst, PairShown}
-use Rattle.work.specs.PairWork.{firstSiblings, secondSiblings, PairWorked}
+use Rattle.pair.specs.PairWork.{firstSiblings, secondSiblings, PairWorked}
 use Rattle.work.specs.PathWork.{rootAfter}
-use Rattle.work.proofs.BesideLaws.{pair-same}
+use Rattle.pair.proofs.BesideLaws.{pair-same}
 use Rattle.settle.specs.declared.Settled.{Settled}
 use Rattle.settle.specs.Left.{Left, pathWay, insertion, insertionDamaged}
 use Rattle.settle.specs.Room.{Cut, InsertionRoom}

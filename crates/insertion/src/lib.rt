@@ -61,7 +61,7 @@ fn prepare_insertion(
     ) {
         return unsettled(root, least, c);
     }
-    let next_least = work::work_pair(w, one_sibs, one, two, words, new, sizes, first, second);
+    let next_least = pair::work_pair(w, one_sibs, one, two, words, new, sizes, first, second);
     let next_root = gather::save_root(w, root, sizes.r as usize);
     let live = c + 1;
     if comes_out_bad(next_root, sizes, t + 1, live, next_least) {

@@ -19,7 +19,7 @@ use Rattle.sound.specs.Sound.{sound, pathSound, siblingsSound}
 use Rattle.leasts.specs.Leasts.{kidsShown, leastsTrue}
 use Rattle.damage.specs.Damaged.{pathDamaged, pairDamaged}
 use Rattle.work.specs.PathWork.{pathBuckets, rootAfter, leastAfter}
-use Rattle.work.specs.PairWork.{seated}
+use Rattle.pair.specs.PairWork.{seated}
 use Rattle.judge.specs.BadParts.{oddLeast, badParts}
 use Rattle.settle.specs.Left.{removal, insertion, removalDamaged, insertionDamaged}
 use Rattle.card.specs.Answers.{orRefused}

@@ -16,7 +16,7 @@ use Rattle.damage.specs.Damaged.{pathDamaged, pairDamaged}
 use Rattle.judge.specs.BadParts.{stampOf, badParts}
 use Rattle.work.specs.PathWork.{rootAfter, leastAfter}
 use Rattle.work.specs.RemovalWork.{removalBuckets, removalRoot, removalLeast, rooted}
-use Rattle.work.specs.PairWork.{firstSiblings, secondSiblings, secondWay, secondBeside, firstBuckets, secondBuckets}
+use Rattle.pair.specs.PairWork.{firstSiblings, secondSiblings, secondWay, secondBeside, firstBuckets, secondBuckets}
 
 -- the root's 64 places and its least record, the count of live events, whether a record was found to remove, and the whole
 -- buckets in list order

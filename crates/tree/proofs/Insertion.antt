@@ -21,7 +21,7 @@ use Rattle.gather.specs.Shown.{slotsShown, wayShown}
 use Rattle.gather.proofs.ShownLaws.{way-length, slots-length}
 use Rattle.mend.specs.Mended.{pathWords}
 use Rattle.work.specs.PathWork.{slotsAfter, pathBuckets, rootAfter, leastAfter}
-use Rattle.work.specs.PairWork.{seated, firstBuckets, secondWay, secondBeside, secondBuckets, firstSiblings, secondSiblings}
+use Rattle.pair.specs.PairWork.{seated, firstBuckets, secondWay, secondBeside, secondBuckets, firstSiblings, secondSiblings}
 use Rattle.work.specs.RemovalWork.{rooted}
 use Rattle.rack.specs.Copy.{fetched, stored}
 use Rattle.tree.specs.Tree.{Tree, Alike, wayOf, besideOf, contents, treeOf}

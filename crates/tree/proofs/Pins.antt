@@ -17,7 +17,7 @@ use Rattle.way.specs.Evict.{seek, fits, movedTo, pull, pulls, evictUp, evict}
 use Rattle.way.specs.Least.{slotsAt, inOrder, kids}
 use Rattle.clearing.specs.Removal.{named, removed}
 use Rattle.work.specs.PathWork.{pathBuckets, rootAfter, leastAfter}
-use Rattle.work.specs.PairWork.{seated}
+use Rattle.pair.specs.PairWork.{seated}
 use Rattle.tree.specs.Tree.{Tree, joined, put, putAll, treeOf}
 use Rattle.tree.specs.Work.{worked, taken, inserted}
 

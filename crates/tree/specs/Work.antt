@@ -7,7 +7,7 @@ use Rattle.record.specs.declared.Record.{Record}
 use Rattle.path.specs.declared.sizes.Sizes.{Sizes}
 use Rattle.clearing.specs.Removal.{removed}
 use Rattle.work.specs.PathWork.{pathBuckets, rootAfter, leastAfter}
-use Rattle.work.specs.PairWork.{seated}
+use Rattle.pair.specs.PairWork.{seated}
 use Rattle.tree.specs.Tree.{Tree, wayOf, besideOf, contents, laidBack}
 
 module _ (s : Sizes) (q : Leaf) where

@@ -1,4 +1,3 @@
 -- The work of a finish, worked out and not yet written.
 pub mod PathWork
-pub mod PairWork
 pub mod RemovalWork

@@ -1,14 +1,10 @@
 // The work of a finish on scratches: document 01, "It works, then each bucket's part of the fetched words is written where
 // it stands". Nothing is written here but scratches, so that all is known before the first word changes.
-// Stands on `record`, `path`, `way`, `gather`, `mend`.
-mod pair;
+// Stands on `record`, `path`, `way`, `gather`, `clearing`, `mend`.
 mod removal;
-mod seating;
 
-pub use pair::work_pair;
 pub use removal::Removed;
 pub use removal::remove_path;
-pub use seating::seat;
 ghost use Prim.Native.Nat.{_≤_};
 ghost use mathlib.Core.Path.{_≡_};
 ghost use Rattle.record.specs.Words.{records};

@@ -23,9 +23,9 @@ use Rattle.gather.proofs.LaidLaws.{laid-length}
 use Rattle.gather.proofs.ShownLaws.{siblings-length}
 use Rattle.gather.proofs.LoadedLaws.{path-loaded, sibling-loaded}
 use Rattle.mend.specs.Mended.{besideAt, pathWords}
 use Rattle.work.specs.PathWork.{slotsAfter, pathBuckets, rootAfter, PathWorked}
-use Rattle.work.specs.PairWork.{seated, firstWay, secondWay, topFirst, secondBeside, secondSiblings, PairWorked}
+use Rattle.pair.specs.PairWork.{seated, firstWay, secondWay, topFirst, secondBeside, secondSiblings, PairWorked}
 use Rattle.work.proofs.BesideLaws.{worked-same}
 
 -- a path has a first bucket
 pub first-bucket : (h z : ℕ) → 1 ≤ h → 4 ≤ h * bucketWords z

@@ -5,7 +5,7 @@ ghost use lib.ListN.{length};
 ghost use Rattle.record.specs.Standing.{isDummy};
 ghost use Rattle.record.specs.Words.{records};
 ghost use Rattle.way.specs.Evict.{seek};
-ghost use Rattle.work.specs.PairWork.{seated};
+ghost use Rattle.pair.specs.PairWork.{seated};
 use record::Record;
 
 // The lowest of the first r places that is the dummy; r if none is.

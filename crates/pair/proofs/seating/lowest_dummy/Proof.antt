@@ -6,8 +6,8 @@ use Rattle.record.specs.Standing.{isDummy}
 use Rattle.record.specs.Words.{records}
 use Rattle.way.specs.Evict.{seek}
 use Rattle.way.proofs.EvictLaws.{seekFrom, seek-starts, seek-found, seek-turns, seek-ends}
-use Rattle.work.proofs.seating.lowest_dummy.Statement.{statement}
-use Rattle.work.proofs.seating.lowest_dummy.Tie as tie
+use Rattle.pair.proofs.seating.lowest_dummy.Statement.{statement}
+use Rattle.pair.proofs.seating.lowest_dummy.Tie as tie
 
 abbrev Inv-loop : tie.InvT-loop
 Inv-loop w r i₀ i = (i ≤ r) × (seek isDummy r (records w) ≡ seekFrom isDummy r w i)

@@ -2,9 +2,9 @@ use borrow.Author.Needs.{needs}
 use native.Mathlib.Omega.{arith}
 use mathlib.Core.Path.{_≡_, _∙_}
 use Rattle.record.specs.Words.{recordAt}
-use Rattle.work.proofs.PairLaws.{first-bucket, top-read, pair-worked}
-use Rattle.work.proofs.pair.work_pair.Statement.{statement}
-use Rattle.work.proofs.pair.work_pair.Tie as tie
+use Rattle.pair.proofs.PairLaws.{first-bucket, top-read, pair-worked}
+use Rattle.pair.proofs.work_pair.Statement.{statement}
+use Rattle.pair.proofs.work_pair.Tie as tie
 
 seat-requires : tie.Need-seat-requires
 seat-requires c κs = search needs

@@ -1,16 +1,18 @@
 // Insert's work: document 01, "Insert puts the record, with stamp t, into the lowest dummy slot of the root, then evicts the
-// first path, then the second."
+// first path, then the second." Nothing is written but scratches. Stands on `record`, `path`, `gather` and `work`.
+mod seating;
+
+pub use seating::seat;
 ghost use mathlib.Core.Path.{_≡_};
 ghost use Prim.Native.Nat.{_*_};
 ghost use Rattle.record.specs.Words.{records};
 ghost use Rattle.gather.specs.Shown.{slotsShown};
 ghost use Rattle.mend.specs.Mended.{besideAt};
-ghost use Rattle.work.specs.PairWork.{PairRoom, PairWorked, secondSiblings};
-use crate::seating::seat;
-use crate::work_path;
+ghost use Rattle.pair.specs.PairWork.{PairRoom, PairWorked, secondSiblings};
 use path::Sizes;
 use record::Leaf;
 use record::Record;
+use work::work_path;
 
 // For crates above: the scratch `w` holds the root's slots and the first path's, `beside` the first path's siblings from
 // level 2 on. The second path's come from the fetched words when its turn is; its sibling at level 1 is the first path's

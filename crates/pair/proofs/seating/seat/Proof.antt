@@ -4,9 +4,9 @@ use mathlib.Core.Path.{ap, _∙_}
 use borrow.Author.Tests.{lt-ltb, le-ltb}
 use Rattle.record.specs.Words.{records}
 use Rattle.record.proofs.WordsLaws.{records-written}
-use Rattle.work.specs.PairWork.{seated}
-use Rattle.work.proofs.seating.seat.Statement.{statement}
-use Rattle.work.proofs.seating.seat.Tie as tie
+use Rattle.pair.specs.PairWork.{seated}
+use Rattle.pair.proofs.seating.seat.Statement.{statement}
+use Rattle.pair.proofs.seating.seat.Tie as tie
 
 lowest-dummy-requires : tie.Need-lowest-dummy-requires
 lowest-dummy-requires c κs = search needs
