@@ -10,9 +10,9 @@ use Rattle.record.specs.Many.{stampTwice}
 use Rattle.record.specs.Order.{leastOf}
 use Rattle.record.proofs.StandingLaws.{same-true, true-same}
 use Rattle.path.specs.Path.{pathBucket}
-use Rattle.way.specs.Least.{inOrder}
+use Rattle.least.specs.Least.{inOrder}
 use Rattle.sound.specs.Sound.{pathSound, siblingsSound, allSound}
-use Rattle.leasts.specs.Leasts.{leastsTrue, allTrue}
+use Rattle.truth.specs.Leasts.{leastsTrue, allTrue}
 use Rattle.sound.specs.Fetched.{Fetched}
 use Rattle.damage.specs.Damaged.{pathDamaged, pairDamaged}
 

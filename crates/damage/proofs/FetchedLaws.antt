@@ -19,7 +19,7 @@ use Rattle.gather.specs.Shown.{siblingsShown}
 use Rattle.gather.proofs.ShownLaws.{bucketsIn, whole-of-part}
 use Rattle.gather.proofs.LoadedLaws.{sibling-loaded}
 use Rattle.sound.specs.Sound.{pathSound, siblingsSound, allSound}
-use Rattle.leasts.specs.Leasts.{kidsShown, leastsTrue, allTrue}
+use Rattle.truth.specs.Leasts.{kidsShown, leastsTrue, allTrue}
 use Rattle.sound.specs.Fetched.{Fetched, fetchedIn, fetchedFrom}
 use Rattle.damage.specs.Damaged.{pathDamaged, pairDamaged}
 

@@ -10,8 +10,8 @@ use Rattle.record.specs.Standing.{dummy, same}
 use Rattle.record.specs.Order.{smaller, smallest, smallestBy}
 use Rattle.record.specs.Words.{recordAt}
 use Rattle.record.proofs.WordsLaws.{records-at}
-use Rattle.way.specs.Least.{over}
-use Rattle.way.proofs.LeastLaws.{smallest-over}
+use Rattle.least.specs.Least.{over}
+use Rattle.least.proofs.LeastLaws.{smallest-over}
 use Rattle.gather.specs.Shown.{wholeAt}
 use Rattle.sound.specs.Fetched.{shownIn, besideIn}
 use Rattle.damage.specs.Damaged.{rootTrue}

@@ -11,10 +11,10 @@ use Rattle.record.specs.Standing.{same}
 use Rattle.record.specs.Many.{stampTwice}
 use Rattle.record.specs.Order.{leastOf}
 use Rattle.path.specs.Path.{pathBucket}
-use Rattle.way.specs.Least.{inOrder}
+use Rattle.least.specs.Least.{inOrder}
 use Rattle.sound.specs.Fetched.{Fetched}
 use Rattle.sound.specs.Sound.{allSound}
-use Rattle.leasts.specs.Leasts.{allTrue}
+use Rattle.truth.specs.Leasts.{allTrue}
 
 -- clause 3 at the root: the least record of its slots and of its children's least records
 abbrev pub rootTrue : Record → List Record → List Record → Bool

@@ -25,7 +25,7 @@ use Rattle.path.specs.Path.{number, root, pathBucket, siblingOf, holds, upFrom}
 use Rattle.path.specs.Layout.{Contents}
 use Rattle.path.proofs.PathLaws.{path-root, path-band, path-parent, path-in-tree, sibling-band, sibling-in-tree, holds-own}
 use Rattle.sound.specs.Sound.{sound, pathSound, siblingsSound}
-use Rattle.leasts.specs.Leasts.{kidsShown, leastsTrue}
+use Rattle.truth.specs.Leasts.{kidsShown, leastsTrue}
 use Rattle.sound.specs.Fetched.{Fetched}
 use Rattle.damage.specs.Damaged.{pathDamaged}
 use Rattle.damage.proofs.DamagedLaws.{PathGood, not-damaged}

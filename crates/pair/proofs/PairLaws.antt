@@ -16,7 +16,7 @@ use Rattle.record.proofs.WordsLaws.{records-written, records-count}
 use Rattle.path.specs.declared.sizes.Sizes.{Sizes}
 use Rattle.path.specs.Layout.{bucketWords}
 use Rattle.path.specs.Path.{upFrom}
-use Rattle.way.specs.Least.{mendedAt, mended}
+use Rattle.least.specs.Least.{mendedAt, mended}
 use Rattle.gather.specs.Laid.{laidOver}
 use Rattle.gather.specs.Shown.{siblingsShown, slotsShown, wayShown}
 use Rattle.gather.proofs.LaidLaws.{laid-length}

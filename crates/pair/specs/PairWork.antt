@@ -13,7 +13,7 @@ use Rattle.record.specs.Words.{records}
 use Rattle.path.specs.declared.sizes.Sizes.{Sizes}
 use Rattle.path.specs.Layout.{Contents}
 use Rattle.way.specs.Evict.{seek}
-use Rattle.way.specs.Least.{mendedAt}
+use Rattle.least.specs.Least.{mendedAt}
 use Rattle.gather.specs.Shown.{siblingAt}
 use Rattle.mend.specs.Mended.{pathWords, MendRoom}
 use Rattle.work.specs.PathWork.{evicted, slotsAfter, pathBuckets, rootAfter, leastAfter}

@@ -16,7 +16,7 @@ use Rattle.path.specs.Path.{pathBucket, upFrom}
 use Rattle.path.specs.Layout.{Contents, treeWords}
 use Rattle.lists.specs.BucketList.{pairList}
 use Rattle.way.specs.Evict.{seek}
-use Rattle.way.specs.Least.{mendedAt}
+use Rattle.least.specs.Least.{mendedAt}
 use Rattle.gather.specs.Shown.{slotsShown, wayShown}
 use Rattle.gather.proofs.ShownLaws.{way-length, slots-length}
 use Rattle.mend.specs.Mended.{pathWords}

@@ -16,9 +16,9 @@ use Rattle.path.specs.Sizes.{leavesOf}
 use Rattle.path.specs.Layout.{treeWords}
 use Rattle.lists.specs.BucketList.{pathList}
 use Rattle.lists.proofs.ListLaws.{length-path}
-use Rattle.way.specs.Least.{mendedAt}
+use Rattle.least.specs.Least.{mendedAt}
 use Rattle.way.proofs.EvictLaws.{length-evict}
-use Rattle.way.proofs.LeastLaws.{length-slots}
+use Rattle.least.proofs.LeastLaws.{length-slots}
 use Rattle.clearing.specs.Removal.{removed}
 use Rattle.gather.specs.Shown.{siblingsShown, wayShown}
 use Rattle.clearing.proofs.RemovalLaws.{removed-length}

@@ -21,8 +21,8 @@ use Rattle.judge.proofs.are_parts_bad.Kinds as are-parts-bad-kinds
 use Rattle.judge.proofs.are_parts_bad.Reads as are-parts-bad
 use Rattle.sound.proofs.all_sound.Kinds as all-sound-kinds
 use Rattle.sound.proofs.all_sound.Reads as all-sound
-use Rattle.leasts.proofs.leasts_true.Kinds as leasts-true-kinds
-use Rattle.leasts.proofs.leasts_true.Reads as leasts-true
+use Rattle.truth.proofs.leasts_true.Kinds as leasts-true-kinds
+use Rattle.truth.proofs.leasts_true.Reads as leasts-true
 use Rattle.damage.proofs.path_damaged.Kinds as path-damaged-kinds
 use Rattle.damage.proofs.path_damaged.Reads as path-damaged
 use Rattle.damage.proofs.pair_damaged.Kinds as pair-damaged-kinds

@@ -11,10 +11,10 @@ use Rattle.unique.specs.One.{Determines}
 use Rattle.unique.proofs.OneLaws.{one-answer}
 use Rattle.way.proofs.evict.Kinds as evict-kinds
 use Rattle.way.proofs.evict.Reads as evict
-use Rattle.way.proofs.least_over.Kinds as least-over-kinds
-use Rattle.way.proofs.least_over.Reads as least-over
-use Rattle.way.proofs.kids_least.Kinds as kids-least-kinds
-use Rattle.way.proofs.kids_least.Reads as kids-least
+use Rattle.least.proofs.least_over.Kinds as least-over-kinds
+use Rattle.least.proofs.least_over.Reads as least-over
+use Rattle.least.proofs.kids_least.Kinds as kids-least-kinds
+use Rattle.least.proofs.kids_least.Reads as kids-least
 use Rattle.stamps.proofs.stamp_twice.Kinds as stamp-twice-kinds
 use Rattle.stamps.proofs.stamp_twice.Reads as stamp-twice
 use Rattle.gather.proofs.copy.Kinds as copy-kinds

@@ -1,6 +1,5 @@
 -- The laws of a way that crates above cite.
 pub mod WayLaws
 pub mod EvictLaws
-pub mod LeastLaws
 pub mod KeptLaws
 pub mod Pins

@@ -9,7 +9,7 @@ use Rattle.record.specs.Order.{leastOf}
 use Rattle.path.specs.declared.sizes.Sizes.{Sizes}
 use Rattle.path.specs.Path.{upFrom}
 use Rattle.path.specs.Layout.{Contents}
-use Rattle.way.specs.Least.{kids, mendedAt, mended}
+use Rattle.least.specs.Least.{kids, mendedAt, mended}
 use Rattle.work.specs.PathWork.{slotsAfter, pathBuckets, leastAfter, PathWorked}
 
 -- buckets that are the same at some levels

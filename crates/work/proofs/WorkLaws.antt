@@ -9,8 +9,8 @@ use Rattle.record.specs.declared.Record.{Record}
 use Rattle.record.specs.Words.{records}
 use Rattle.path.specs.declared.sizes.Sizes.{Sizes}
 use Rattle.way.specs.Evict.{evict}
-use Rattle.way.specs.Least.{over}
-use Rattle.way.proofs.LeastLaws.{smallest-over}
+use Rattle.least.specs.Least.{over}
+use Rattle.least.proofs.LeastLaws.{smallest-over}
 use Rattle.mend.specs.Mended.{besideAt, Mended}
 use Rattle.clearing.specs.Removal.{Cleared}
 use Rattle.clearing.proofs.RemovalLaws.{cleared-records}

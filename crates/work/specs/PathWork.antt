@@ -11,7 +11,7 @@ use Rattle.record.specs.Words.{records}
 use Rattle.path.specs.declared.sizes.Sizes.{Sizes}
 use Rattle.path.specs.Layout.{Contents}
 use Rattle.way.specs.Evict.{evict}
-use Rattle.way.specs.Least.{slotsAt, rootSlots, kids, mended}
+use Rattle.least.specs.Least.{slotsAt, rootSlots, kids, mended}
 use Rattle.mend.specs.Mended.{pathWords}
 
 -- One path, evicted and mended: `beside d` is the least record of the sibling at level d.

@@ -1,6 +1,6 @@
 // The work of a finish on scratches: document 01, "It works, then each bucket's part of the fetched words is written where
 // it stands". Nothing is written here but scratches, so that all is known before the first word changes.
-// Stands on `record`, `path`, `way`, `gather`, `clearing`, `mend`.
+// Stands on `record`, `path`, `way`, `least`, `gather`, `clearing`, `mend`.
 mod removal;
 
 pub use removal::Removed;
@@ -29,5 +29,5 @@ pub fn work_path(
     way::evict(w, sizes, leaf);
     let kids = mend::mend_path(path, w, beside, sizes, leaf);
     let r = sizes.r as usize;
-    way::least_over(w, 0, r, kids)
+    least::least_over(w, 0, r, kids)
 }
