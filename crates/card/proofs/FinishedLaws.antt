@@ -9,7 +9,7 @@ use borrow.Author.Tests.{eq-eqb, ne-eqb}
 use Rattle.record.specs.declared.Leaf.{Leaf}
 use Rattle.record.specs.declared.Stamp.{Stamp}
 use Rattle.lists.specs.BucketList.{wordsMoved, pathList, pairList}
-use Rattle.gather.specs.Removal.{named}
+use Rattle.clearing.specs.Removal.{named}
 use Rattle.refusal.specs.Refusal.{row, firstGiven}
 use Rattle.refusal.proofs.RefusalLaws.{first-append}
 use Rattle.settle.specs.declared.Settled.{Settled}

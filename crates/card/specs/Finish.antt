@@ -10,7 +10,7 @@ use Rattle.record.specs.declared.Leaf.{Leaf}
 use Rattle.record.specs.declared.Record.{Record}
 use Rattle.record.specs.Standing.{recordOf, same}
 use Rattle.lists.specs.BucketList.{counts, fetchedFor, wordsMoved}
-use Rattle.gather.specs.Removal.{named}
+use Rattle.clearing.specs.Removal.{named}
 use Rattle.refusal.specs.Refusal.{Refusal, row, firstGiven}
 use Rattle.settle.specs.Left.{Left, wordsLeft, removal, insertion, removalDamaged, insertionDamaged}
 use Rattle.card.specs.declared.Card.{Card}

@@ -18,12 +18,14 @@ use Rattle.refusal.specs.Refusal.{firstGiven}
 use Rattle.root.specs.Root.{strangeSlot, usedPast, stampShared, rootRecords, greaterThanSome, rootFull}
 use Rattle.judge.specs.BadParts.{oddLeast, badParts}
 use Rattle.way.specs.Evict.{seek, fits, movedTo, pull, pulls, evictUp, evict}
-use Rattle.way.specs.Least.{slotsAt, inOrder, kids}
-use Rattle.gather.specs.Removal.{named, found, removed}
+use Rattle.least.specs.Least.{slotsAt, inOrder, kids}
+use Rattle.clearing.specs.Removal.{named, found, removed}
 use Rattle.gather.specs.Shown.{wholeAt, siblingAt, siblingsShown, slotsShown, wayShown}
 use Rattle.mend.specs.Mended.{pathWords}
-use Rattle.work.specs.Work.{pathBuckets, rootAfter, leastAfter, seated}
-use Rattle.damage.specs.Damage.{sound, pathSound, siblingsSound, kidsShown, leastsTrue}
+use Rattle.work.specs.PathWork.{pathBuckets, rootAfter, leastAfter}
+use Rattle.pair.specs.PairWork.{seated}
+use Rattle.sound.specs.Sound.{sound, pathSound, siblingsSound}
+use Rattle.truth.specs.Leasts.{kidsShown, leastsTrue}
 use Rattle.damage.specs.Damaged.{pathDamaged, pairDamaged}
 use Rattle.settle.specs.Left.{removal, insertion, removalDamaged, insertionDamaged}
 use Rattle.rack.specs.Answers.{anyOutside}

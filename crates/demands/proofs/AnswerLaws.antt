@@ -13,8 +13,8 @@ use Rattle.record.specs.Order.{smallest}
 use Rattle.record.proofs.StandingLaws.{proper-not-dummy}
 use Rattle.record.proofs.ManyLaws.{every-each}
 use Rattle.path.specs.Sizes.{leavesOf}
-use Rattle.gather.specs.Removal.{named, found}
-use Rattle.gather.proofs.RemovalLaws.{member-found}
+use Rattle.clearing.specs.Removal.{named, found}
+use Rattle.clearing.proofs.RemovalLaws.{member-found}
 use Rattle.judge.specs.BadParts.{stampOf}
 use Rattle.rack.specs.Copy.{fetched}
 use Rattle.card.specs.declared.Card.{Card}

@@ -19,8 +19,8 @@ use Rattle.record.specs.Order.{noLater, smallerBy, smallestBy, smallest}
 use Rattle.record.proofs.StandingLaws.{proper-true}
 use Rattle.record.proofs.OrderLaws.{order-by-key, smaller-first, smallest-in, proper-before-dummy}
 use Rattle.way.specs.Evict.{seek}
-use Rattle.gather.specs.Removal.{named, found}
-use Rattle.gather.proofs.RemovalLaws.{found-passes, member-found}
+use Rattle.clearing.specs.Removal.{named, found}
+use Rattle.clearing.proofs.RemovalLaws.{found-passes, member-found}
 use Rattle.good.specs.Live.{without, Ascending, more}
 use Rattle.good.proofs.FitLaws.{at-place}
 use Rattle.good.proofs.PickLaws.{named-is}

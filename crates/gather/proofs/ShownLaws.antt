@@ -13,7 +13,7 @@ use Rattle.record.specs.Words.{records}
 use Rattle.record.proofs.WordsLaws.{records-long, records-take, records-drop}
 use Rattle.path.specs.Path.{upFrom}
 use Rattle.lists.proofs.Naming.{length-upFrom}
-use Rattle.way.specs.Least.{slotsAt, rootSlots}
+use Rattle.least.specs.Least.{slotsAt, rootSlots}
 use Rattle.way.proofs.WayLaws.{part-length}
 use Rattle.gather.specs.Shown.{wholeAt, siblingAt, siblingsShown, slotsShown, wayShown}
 

@@ -19,8 +19,11 @@ use Rattle.way.specs.Evict.{seek}
 use Rattle.gather.specs.Shown.{slotsShown, wayShown}
 use Rattle.gather.proofs.ShownLaws.{slots-split}
 use Rattle.mend.specs.Mended.{pathWords}
-use Rattle.work.specs.Work.{rootAfter, leastAfter, firstBuckets, secondWay, secondBeside, secondBuckets, firstSiblings, secondSiblings, rooted}
-use Rattle.damage.specs.Damaged.{firstFetched, secondFetched, pairDamaged}
+use Rattle.work.specs.PathWork.{rootAfter, leastAfter}
+use Rattle.pair.specs.PairWork.{firstBuckets, secondWay, secondBeside, secondBuckets, firstSiblings, secondSiblings}
+use Rattle.work.specs.RemovalWork.{rooted}
+use Rattle.sound.specs.Fetched.{firstFetched, secondFetched}
+use Rattle.damage.specs.Damaged.{pairDamaged}
 use Rattle.damage.proofs.FetchedLaws.{pair-alike}
 use Rattle.rack.specs.Copy.{fetched, stored}
 use Rattle.tree.specs.Tree.{Tree, wayOf, treeOf}

@@ -14,7 +14,7 @@ use Rattle.path.specs.declared.sizes.Sizes.{Sizes}
 use Rattle.path.specs.Sizes.{leavesOf}
 use Rattle.lists.specs.BucketList.{pathList, pairList}
 use Rattle.root.specs.Root.{rootFull}
-use Rattle.gather.specs.Removal.{found}
+use Rattle.clearing.specs.Removal.{found}
 use Rattle.judge.specs.BadParts.{stampOf}
 use Rattle.settle.specs.Left.{Left, wordsLeft, pathWay, removal, insertion, removalDamaged, insertionDamaged}
 use Rattle.rack.specs.Copy.{fetched, stored}

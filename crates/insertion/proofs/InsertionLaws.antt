@@ -20,13 +20,16 @@ use Rattle.lists.proofs.ListLaws.{moved-by-counts, pair-counts, next-part}
 use Rattle.gather.specs.Shown.{siblingAt, slotsShown, wayShown}
 use Rattle.gather.proofs.ShownLaws.{bucketsIn, whole-of-part, siblings-at}
 use Rattle.mend.specs.Mended.{pathWords, besideAt}
-use Rattle.mend.specs.Stored.{StoreRoom}
-use Rattle.damage.specs.Room.{Room}
-use Rattle.damage.specs.Damaged.{fetchedIn, firstFetched, secondFetched, pairDamaged}
+use Rattle.writing.specs.Stored.{StoreRoom}
+use Rattle.sound.specs.Room.{Room}
+use Rattle.sound.specs.Fetched.{fetchedIn, firstFetched, secondFetched}
+use Rattle.damage.specs.Damaged.{pairDamaged}
 use Rattle.damage.proofs.FetchedLaws.{Alike, pair-alike}
 use Rattle.judge.specs.BadParts.{stampOf, badParts}
-use Rattle.work.specs.Work.{belowFirst, firstSiblings, secondSiblings, rootAfter, PairShown, PairWorked}
-use Rattle.work.proofs.BesideLaws.{pair-same}
+use Rattle.shown.specs.PairShown.{belowFirst, PairShown}
+use Rattle.pair.specs.PairWork.{firstSiblings, secondSiblings, PairWorked}
+use Rattle.work.specs.PathWork.{rootAfter}
+use Rattle.pair.proofs.BesideLaws.{pair-same}
 use Rattle.settle.specs.declared.Settled.{Settled}
 use Rattle.settle.specs.Left.{Left, pathWay, insertion, insertionDamaged}
 use Rattle.settle.specs.Room.{Cut, InsertionRoom}

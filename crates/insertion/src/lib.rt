@@ -44,7 +44,7 @@ fn prepare_insertion(
     requires { ⌜ (InsertionRoom sizes t c first second (now words)) × (InsertionScratch sizes (now w) (now «one_sibs») (now «two_sibs») (now all) (now one) (now two)) ⌝ }
     ensures { λ out. ⌜ Prepares root least c (insertionDamaged sizes t c root least (now (words .entry)) first second new) (insertion sizes c root (now (words .entry)) first second new) (2 * (sizes .h - 1)) (now (one .exit) ++ now (two .exit)) out ⌝ }
 {
-    let moved = work::show_pair(w, one_sibs, two_sibs, all, root, words, sizes);
+    let moved = shown::show_pair(w, one_sibs, two_sibs, all, root, words, sizes);
     let half = one.len();
     let whole = half + half;
     if damage::pair_damaged(
@@ -61,7 +61,7 @@ fn prepare_insertion(
     ) {
         return unsettled(root, least, c);
     }
-    let next_least = work::work_pair(w, one_sibs, one, two, words, new, sizes, first, second);
+    let next_least = pair::work_pair(w, one_sibs, one, two, words, new, sizes, first, second);
     let next_root = gather::save_root(w, root, sizes.r as usize);
     let live = c + 1;
     if comes_out_bad(next_root, sizes, t + 1, live, next_least) {
@@ -119,8 +119,8 @@ fn write_insertion(
         return out;
     }
     let half = one.len();
-    let lower = mend::write_path(words, one, sizes);
-    let upper = mend::write_path(&mut words[half..], two, sizes);
+    let lower = writing::write_path(words, one, sizes);
+    let upper = writing::write_path(&mut words[half..], two, sizes);
     let stores = lower + upper;
     Settled {
         moved: out.moved + stores,

@@ -12,8 +12,8 @@ use Rattle.record.specs.declared.Record.{Record}
 use Rattle.record.proofs.WordsLaws.{words-length}
 use Rattle.path.specs.Layout.{Contents, contentsWords, bucketWords}
 use Rattle.path.specs.Path.{upFrom}
-use Rattle.way.specs.Least.{slotsAt, mendedAt, mended}
-use Rattle.way.proofs.LeastLaws.{length-slots}
+use Rattle.least.specs.Least.{slotsAt, mendedAt, mended}
+use Rattle.least.proofs.LeastLaws.{length-slots}
 use Rattle.mend.specs.Mended.{pathWords}
 
 pub length-contents : (z : ℕ) (b : Contents) → length (b .slots) ≡ z → length (contentsWords b) ≡ bucketWords z

@@ -15,8 +15,9 @@ use Rattle.record.specs.declared.Record.{Record}
 use Rattle.record.specs.Standing.{dummy, isDummy}
 use Rattle.record.proofs.StandingLaws.{dummy-is, is-dummy}
 use Rattle.path.specs.declared.sizes.Sizes.{Sizes}
-use Rattle.gather.specs.Removal.{named, found}
-use Rattle.damage.specs.Damaged.{pathFetched, pathDamaged}
+use Rattle.clearing.specs.Removal.{named, found}
+use Rattle.sound.specs.Fetched.{pathFetched}
+use Rattle.damage.specs.Damaged.{pathDamaged}
 use Rattle.damage.proofs.Empty.{none-found}
 use Rattle.judge.specs.BadParts.{stampOf, oddLeast}
 use Rattle.judge.proofs.FitLaws.{Fit, neither}

@@ -16,13 +16,15 @@ use Rattle.lists.specs.BucketList.{wordsMoved, pathList, moved}
 use Rattle.lists.proofs.ListLaws.{moved-by-counts, path-counts}
 use Rattle.gather.proofs.ShownLaws.{bucketsIn, whole-of-part, siblings-at}
 use Rattle.mend.specs.Mended.{pathWords}
-use Rattle.mend.specs.Stored.{StoreRoom}
-use Rattle.damage.specs.Room.{Room}
-use Rattle.damage.specs.Damaged.{fetchedIn, pathFetched, pathDamaged}
+use Rattle.writing.specs.Stored.{StoreRoom}
+use Rattle.sound.specs.Room.{Room}
+use Rattle.sound.specs.Fetched.{fetchedIn, pathFetched}
+use Rattle.damage.specs.Damaged.{pathDamaged}
 use Rattle.damage.proofs.FetchedLaws.{Alike, path-alike}
 use Rattle.judge.specs.BadParts.{stampOf, badParts}
 use Rattle.work.specs.declared.removal.Removed.{Removed}
-use Rattle.work.specs.Work.{PathShown, PathRemoved}
+use Rattle.shown.specs.PathShown.{PathShown}
+use Rattle.work.specs.RemovalWork.{PathRemoved}
 use Rattle.settle.specs.declared.Settled.{Settled}
 use Rattle.settle.specs.Left.{Left, pathWay, pathSiblings, removal, removalDamaged}
 use Rattle.settle.specs.Room.{RemovalRoom}

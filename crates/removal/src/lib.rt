@@ -5,7 +5,7 @@
 ghost use mathlib.Core.Path.{_≡_};
 ghost use mathlib.Core.Bool.{cond};
 ghost use Prim.Native.Nat.{_-_};
-ghost use Rattle.gather.specs.Removal.{named};
+ghost use Rattle.clearing.specs.Removal.{named};
 ghost use Rattle.lists.specs.BucketList.{wordsMoved, pathList};
 ghost use Rattle.settle.specs.Left.{removal, removalDamaged};
 ghost use Rattle.settle.specs.Settled.{Prepares, Settles};
@@ -54,7 +54,7 @@ fn prepare_removal(
     requires { ⌜ (RemovalRoom sizes t c label (now words)) × (RemovalScratch sizes (now w) (now sibs) (now path)) ⌝ }
     ensures { λ out. ⌜ Prepares root least c (removalDamaged sizes t c root least (now (words .entry)) label (named label stamp)) (removal sizes c root (now (words .entry)) label (named label stamp)) (sizes .h) (now (path .exit)) out ⌝ }
 {
-    let moved = work::show_path(w, sibs, root, words, sizes);
+    let moved = shown::show_path(w, sibs, root, words, sizes);
     let buckets = path.len();
     if damage::path_damaged(&words[0..buckets], sibs, w, sizes, label, Stamp(t), least) {
         return unsettled(root, least, c);
@@ -97,7 +97,7 @@ fn write_removal(
     if out.damaged {
         return out;
     }
-    let stores = mend::write_path(words, path, sizes);
+    let stores = writing::write_path(words, path, sizes);
     Settled {
         moved: out.moved + stores,
         ..out

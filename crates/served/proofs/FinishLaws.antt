@@ -13,7 +13,7 @@ use Rattle.record.proofs.StandingLaws.{true-proper, below-known}
 use Rattle.path.specs.Sizes.{leavesOf}
 use Rattle.lists.specs.BucketList.{pathList, pairList}
 use Rattle.path.proofs.SizesLaws.{in-range}
-use Rattle.gather.specs.Removal.{named, found}
+use Rattle.clearing.specs.Removal.{named, found}
 use Rattle.refusal.specs.Refusal.{firstGiven}
 use Rattle.judge.specs.BadParts.{stampOf}
 use Rattle.settle.specs.Left.{Left, wordsLeft, removal, insertion, removalDamaged, insertionDamaged}

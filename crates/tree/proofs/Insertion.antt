@@ -16,12 +16,13 @@ use Rattle.path.specs.Path.{pathBucket, upFrom}
 use Rattle.path.specs.Layout.{Contents, treeWords}
 use Rattle.lists.specs.BucketList.{pairList}
 use Rattle.way.specs.Evict.{seek}
-use Rattle.way.specs.Least.{mendedAt}
+use Rattle.least.specs.Least.{mendedAt}
 use Rattle.gather.specs.Shown.{slotsShown, wayShown}
 use Rattle.gather.proofs.ShownLaws.{way-length, slots-length}
 use Rattle.mend.specs.Mended.{pathWords}
-use Rattle.work.specs.Work.{slotsAfter, pathBuckets, rootAfter, leastAfter, seated, firstBuckets}
-use Rattle.work.specs.Work.{secondWay, secondBeside, secondBuckets, firstSiblings, secondSiblings, rooted}
+use Rattle.work.specs.PathWork.{slotsAfter, pathBuckets, rootAfter, leastAfter}
+use Rattle.pair.specs.PairWork.{seated, firstBuckets, secondWay, secondBeside, secondBuckets, firstSiblings, secondSiblings}
+use Rattle.work.specs.RemovalWork.{rooted}
 use Rattle.rack.specs.Copy.{fetched, stored}
 use Rattle.tree.specs.Tree.{Tree, Alike, wayOf, besideOf, contents, treeOf}
 use Rattle.tree.specs.Work.{worked, afterFirst, inserted}

@@ -19,6 +19,10 @@ use Rattle.root.proofs.all_real.Kinds as all-real-kinds
 use Rattle.root.proofs.all_real.Reads as all-real
 use Rattle.judge.proofs.are_parts_bad.Kinds as are-parts-bad-kinds
 use Rattle.judge.proofs.are_parts_bad.Reads as are-parts-bad
+use Rattle.sound.proofs.all_sound.Kinds as all-sound-kinds
+use Rattle.sound.proofs.all_sound.Reads as all-sound
+use Rattle.truth.proofs.leasts_true.Kinds as leasts-true-kinds
+use Rattle.truth.proofs.leasts_true.Reads as leasts-true
 use Rattle.damage.proofs.path_damaged.Kinds as path-damaged-kinds
 use Rattle.damage.proofs.path_damaged.Reads as path-damaged
 use Rattle.damage.proofs.pair_damaged.Kinds as pair-damaged-kinds
@@ -74,6 +78,16 @@ one-all-real =
 pub one-are-parts-bad : Determines 1 are-parts-bad-kinds.ps are-parts-bad-kinds.r are-parts-bad.Asked are-parts-bad.Learnt
 one-are-parts-bad =
     one-answer 1 are-parts-bad-kinds.ps are-parts-bad-kinds.r are-parts-bad.Asked are-parts-bad.Learnt _ _
+    (λ κs a ok x xs f p. (p, refl))
+
+pub one-all-sound : Determines 2 all-sound-kinds.ps all-sound-kinds.r all-sound.Asked all-sound.Learnt
+one-all-sound =
+    one-answer 2 all-sound-kinds.ps all-sound-kinds.r all-sound.Asked all-sound.Learnt _ _
+    (λ κs a ok x xs f p. (p, refl))
+
+pub one-leasts-true : Determines 2 leasts-true-kinds.ps leasts-true-kinds.r leasts-true.Asked leasts-true.Learnt
+one-leasts-true =
+    one-answer 2 leasts-true-kinds.ps leasts-true-kinds.r leasts-true.Asked leasts-true.Learnt _ _
     (λ κs a ok x xs f p. (p, refl))
 
 pub one-path-damaged : Determines 3 path-damaged-kinds.ps path-damaged-kinds.r path-damaged.Asked path-damaged.Learnt

@@ -3,7 +3,7 @@ use native.Mathlib.Omega.{arith}
 use mathlib.Core.Path.{_≡_, sym, _∙_}
 use Prim.Native.Nat.{_-_}
 use lib.ListN.{length}
-use Rattle.gather.specs.Removal.{named}
+use Rattle.clearing.specs.Removal.{named}
 use Rattle.removal.proofs.RemovalLaws.{lent-room, verdict, fetched-bad, left-bad, left-good}
 use Rattle.removal.proofs.prepare_removal.Statement.{statement}
 use Rattle.removal.proofs.prepare_removal.Tie as tie
