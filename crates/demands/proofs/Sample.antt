@@ -29,7 +29,7 @@ use Rattle.damage.specs.Damage.{sound, pathSound, siblingsSound, kidsShown, lea
 use Rattle.damage.specs.Damaged.{pathDamaged, pairDamaged}
 use Rattle.settle.specs.Left.{removal, insertion, removalDamaged, insertionDamaged}
 use Rattle.rack.specs.Answers.{anyOutside}
-use Rattle.rack.specs.Copy.{stored}
+use Rattle.copies.specs.Copy.{stored}
 use Rattle.card.specs.Answers.{orRefused}
 use Rattle.card.specs.BadCard.{badCard}
 use Rattle.card.specs.Calls.{listOf, beginTable, minTable, withdrawTable}

@@ -26,7 +26,7 @@ use Rattle.gather.specs.Shown.{wayShown}
 use Rattle.gather.proofs.RemovalLaws.{member-found, found-passes}
 use Rattle.judge.specs.BadParts.{stampOf}
 use Rattle.damage.specs.Damaged.{pathFetched, firstFetched, secondFetched, pathDamaged, pairDamaged}
-use Rattle.rack.specs.Copy.{fetched}
+use Rattle.copies.specs.Copy.{fetched}
 use Rattle.tree.specs.Tree.{Tree, wayOf, treeOf}
 use Rattle.tree.proofs.PathFetch.{path-way}
 use Rattle.tree.proofs.HalvesLaws.{Halves}

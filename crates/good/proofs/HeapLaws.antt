@@ -23,7 +23,7 @@ use Rattle.mend.specs.Mended.{pathWords, besideAt}
 use Rattle.judge.specs.BadParts.{stampOf}
 use Rattle.work.specs.Work.{rootAfter, leastAfter, removalBuckets, removalRoot, removalLeast, rooted}
 use Rattle.work.specs.Work.{firstBuckets, secondWay, secondBeside, secondBuckets, firstSiblings, secondSiblings}
-use Rattle.rack.specs.Copy.{fetched, stored}
+use Rattle.copies.specs.Copy.{fetched, stored}
 use Rattle.tree.specs.Tree.{Tree, wayOf, treeOf}
 use Rattle.tree.proofs.PathFetch.{path-way}
 use Rattle.tree.proofs.Removal.{root-after-length, removal-stored-length, tree-way-length}

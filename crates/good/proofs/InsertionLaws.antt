@@ -22,7 +22,7 @@ use Rattle.mend.specs.Mended.{pathWords}
 use Rattle.work.specs.Work.{rootAfter, leastAfter, firstBuckets, secondWay, secondBeside, secondBuckets, firstSiblings, secondSiblings, rooted}
 use Rattle.damage.specs.Damaged.{firstFetched, secondFetched, pairDamaged}
 use Rattle.damage.proofs.FetchedLaws.{pair-alike}
-use Rattle.rack.specs.Copy.{fetched, stored}
+use Rattle.copies.specs.Copy.{fetched, stored}
 use Rattle.tree.specs.Tree.{Tree, wayOf, treeOf}
 use Rattle.tree.specs.Work.{inserted}
 use Rattle.tree.proofs.PathFetch.{tree-root}

@@ -20,7 +20,7 @@ use Rattle.mend.specs.Mended.{pathWords}
 use Rattle.work.specs.Work.{removalBuckets, removalRoot, removalLeast, rooted}
 use Rattle.damage.specs.Damaged.{pathFetched, pathDamaged}
 use Rattle.damage.proofs.FetchedLaws.{path-alike}
-use Rattle.rack.specs.Copy.{fetched, stored}
+use Rattle.copies.specs.Copy.{fetched, stored}
 use Rattle.tree.specs.Tree.{Tree, wayOf, treeOf}
 use Rattle.tree.specs.Work.{taken}
 use Rattle.tree.proofs.PathFetch.{tree-root, path-shows, path-sibling, path-way}

@@ -22,7 +22,7 @@ use Rattle.gather.proofs.ShownLaws.{way-length, slots-length}
 use Rattle.mend.specs.Mended.{pathWords}
 use Rattle.work.specs.Work.{slotsAfter, pathBuckets, rootAfter, leastAfter, seated, firstBuckets}
 use Rattle.work.specs.Work.{secondWay, secondBeside, secondBuckets, firstSiblings, secondSiblings, rooted}
-use Rattle.rack.specs.Copy.{fetched, stored}
+use Rattle.copies.specs.Copy.{fetched, stored}
 use Rattle.tree.specs.Tree.{Tree, Alike, wayOf, besideOf, contents, treeOf}
 use Rattle.tree.specs.Work.{worked, afterFirst, inserted}
 use Rattle.tree.proofs.PathLaws.{laid-root, laid-on, laid-off}

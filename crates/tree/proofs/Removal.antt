@@ -26,7 +26,7 @@ use Rattle.gather.proofs.ShownLaws.{way-length}
 use Rattle.mend.specs.Mended.{pathWords, besideAt}
 use Rattle.work.specs.Work.{evicted, slotsAfter, pathBuckets, rootAfter, leastAfter, removalBuckets, removalRoot, removalLeast, rooted}
 use Rattle.work.proofs.BesideLaws.{kids-same, mended-same}
-use Rattle.rack.specs.Copy.{fetched, stored}
+use Rattle.copies.specs.Copy.{fetched, stored}
 use Rattle.tree.specs.Tree.{Tree, Alike, wayOf, besideOf, treeOf}
 use Rattle.tree.specs.Work.{worked, taken}
 use Rattle.tree.proofs.FetchLaws.{fetched-long}
