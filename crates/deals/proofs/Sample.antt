@@ -29,7 +29,7 @@ use Rattle.truth.specs.Leasts.{kidsShown, leastsTrue}
 use Rattle.damage.specs.Damaged.{pathDamaged, pairDamaged}
 use Rattle.settle.specs.Left.{removal, insertion, removalDamaged, insertionDamaged}
 use Rattle.rack.specs.Answers.{anyOutside}
-use Rattle.rack.specs.Copy.{stored}
+use Rattle.copies.specs.Copy.{stored}
 use Rattle.request.specs.declared.Waiting.{Waiting}
 use Rattle.card.specs.Answers.{orRefused, valuesOf}
 use Rattle.card.specs.BadCard.{badCard}

@@ -16,7 +16,7 @@ use Rattle.path.specs.Sizes.{leavesOf}
 use Rattle.clearing.specs.Removal.{named, found}
 use Rattle.clearing.proofs.RemovalLaws.{member-found}
 use Rattle.judge.specs.BadParts.{stampOf}
-use Rattle.rack.specs.Copy.{fetched}
+use Rattle.copies.specs.Copy.{fetched}
 use Rattle.card.specs.declared.Card.{Card}
 use Rattle.request.specs.declared.Waiting.{Waiting}
 use Rattle.request.specs.declared.Waiting.the-variants.{Nothing, Insert, Extract, Delete}

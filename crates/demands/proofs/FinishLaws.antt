@@ -15,7 +15,7 @@ use Rattle.path.specs.Path.{number}
 use Rattle.lists.specs.BucketList.{BucketList, numbers, laid}
 use Rattle.refusal.specs.Refusal.{firstGiven}
 use Rattle.settle.specs.Left.{Left, wordsLeft}
-use Rattle.rack.specs.Copy.{fetched, stored}
+use Rattle.copies.specs.Copy.{fetched, stored}
 use Rattle.rack.proofs.ListedLaws.{listed-laid, laid-passes}
 use Rattle.rack.proofs.RefusalLaws.{refuses-words}
 use Rattle.card.specs.declared.Card.{Card}

@@ -31,7 +31,7 @@ use Rattle.truth.specs.Leasts.{kidsShown, leastsTrue}
 use Rattle.damage.specs.Damaged.{pathDamaged, pairDamaged}
 use Rattle.settle.specs.Left.{removal, insertion, removalDamaged, insertionDamaged}
 use Rattle.rack.specs.Answers.{anyOutside}
-use Rattle.rack.specs.Copy.{stored}
+use Rattle.copies.specs.Copy.{stored}
 use Rattle.card.specs.Answers.{orRefused}
 use Rattle.card.specs.BadCard.{badCard}
 use Rattle.card.specs.Calls.{listOf, beginTable, minTable, withdrawTable}

@@ -15,7 +15,7 @@ use Rattle.refusal.specs.Refusal.{firstGiven}
 use Rattle.settle.specs.Left.{wordsLeft}
 use Rattle.rack.specs.Refusals.{afterwards}
 use Rattle.rack.specs.Answers.{copyRefusal}
-use Rattle.rack.specs.Copy.{listed, fetched, stored}
+use Rattle.copies.specs.Copy.{listed, fetched, stored}
 use Rattle.card.specs.declared.Card.{Card}
 use Rattle.request.specs.declared.Waiting.{Waiting}
 use Rattle.request.specs.declared.Waiting.the-variants.{Insert, Extract, Delete}

@@ -27,7 +27,7 @@ use Rattle.clearing.proofs.RemovalLaws.{member-found, found-passes}
 use Rattle.judge.specs.BadParts.{stampOf}
 use Rattle.sound.specs.Fetched.{pathFetched, firstFetched, secondFetched}
 use Rattle.damage.specs.Damaged.{pathDamaged, pairDamaged}
-use Rattle.rack.specs.Copy.{fetched}
+use Rattle.copies.specs.Copy.{fetched}
 use Rattle.tree.specs.Tree.{Tree, wayOf, treeOf}
 use Rattle.tree.proofs.PathFetch.{path-way}
 use Rattle.tree.proofs.HalvesLaws.{Halves}

@@ -24,7 +24,7 @@ use Rattle.judge.specs.BadParts.{stampOf}
 use Rattle.work.specs.PathWork.{rootAfter, leastAfter}
 use Rattle.work.specs.RemovalWork.{removalBuckets, removalRoot, removalLeast, rooted}
 use Rattle.pair.specs.PairWork.{firstBuckets, secondWay, secondBeside, secondBuckets, firstSiblings, secondSiblings}
-use Rattle.rack.specs.Copy.{fetched, stored}
+use Rattle.copies.specs.Copy.{fetched, stored}
 use Rattle.tree.specs.Tree.{Tree, wayOf, treeOf}
 use Rattle.tree.proofs.PathFetch.{path-way}
 use Rattle.tree.proofs.Removal.{root-after-length, removal-stored-length, tree-way-length}

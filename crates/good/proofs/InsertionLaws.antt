@@ -25,7 +25,7 @@ use Rattle.work.specs.RemovalWork.{rooted}
 use Rattle.sound.specs.Fetched.{firstFetched, secondFetched}
 use Rattle.damage.specs.Damaged.{pairDamaged}
 use Rattle.damage.proofs.FetchedLaws.{pair-alike}
-use Rattle.rack.specs.Copy.{fetched, stored}
+use Rattle.copies.specs.Copy.{fetched, stored}
 use Rattle.tree.specs.Tree.{Tree, wayOf, treeOf}
 use Rattle.tree.specs.Work.{inserted}
 use Rattle.tree.proofs.PathFetch.{tree-root}

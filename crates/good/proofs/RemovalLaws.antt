@@ -21,7 +21,7 @@ use Rattle.work.specs.RemovalWork.{removalBuckets, removalRoot, removalLeast, r
 use Rattle.sound.specs.Fetched.{pathFetched}
 use Rattle.damage.specs.Damaged.{pathDamaged}
 use Rattle.damage.proofs.FetchedLaws.{path-alike}
-use Rattle.rack.specs.Copy.{fetched, stored}
+use Rattle.copies.specs.Copy.{fetched, stored}
 use Rattle.tree.specs.Tree.{Tree, wayOf, treeOf}
 use Rattle.tree.specs.Work.{taken}
 use Rattle.tree.proofs.PathFetch.{tree-root, path-shows, path-sibling, path-way}

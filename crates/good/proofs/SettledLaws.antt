@@ -17,7 +17,7 @@ use Rattle.root.specs.Root.{rootFull}
 use Rattle.clearing.specs.Removal.{found}
 use Rattle.judge.specs.BadParts.{stampOf}
 use Rattle.settle.specs.Left.{Left, wordsLeft, pathWay, removal, insertion, removalDamaged, insertionDamaged}
-use Rattle.rack.specs.Copy.{fetched, stored}
+use Rattle.copies.specs.Copy.{fetched, stored}
 use Rattle.tree.proofs.HalvesLaws.{Halves}
 use Rattle.good.specs.Live.{without}
 use Rattle.good.specs.Heap.{Heap}

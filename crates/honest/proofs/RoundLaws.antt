@@ -18,7 +18,7 @@ use Rattle.lists.specs.BucketList.{BucketList, counts, laid, fetchedFor}
 use Rattle.path.proofs.SizesLaws.{in-range}
 use Rattle.refusal.specs.Refusal.{Refusal, row, firstGiven}
 use Rattle.settle.specs.Left.{wordsLeft}
-use Rattle.rack.specs.Copy.{fetched, stored}
+use Rattle.copies.specs.Copy.{fetched, stored}
 use Rattle.rack.proofs.ListedLaws.{laid-passes}
 use Rattle.card.specs.declared.Card.{Card}
 use Rattle.request.specs.declared.Waiting.{Waiting}

@@ -1,8 +1,8 @@
 -- The bucket list of each request, and the words moved for it: document 01, "A request, step by step". Assumes nothing.
-use Prim.Native.Nat.{ℕ, _+_, _*_, _-_}
+use Prim.Native.Nat.{ℕ, _+_, _*_, _-_, _≤_, _<_, _^_}
 use mathlib.Core.Path.{_≡_}
 use mathlib.Core.List.{List, [], _∷_, _++_, map}
-use lib.ListN.{length, drop}
+use lib.ListN.{length, take, drop}
 use Rattle.record.specs.declared.Leaf.{Leaf}
 use Rattle.record.specs.declared.Bucket.{Bucket}
 use Rattle.lists.specs.declared.Listed.{Listed}
@@ -33,6 +33,17 @@ numbers l = map number (l .whole ++ l .least)
 
 abbrev pub laid : BucketList → List ℕ → List ℕ
 laid l places = numbers l ++ drop (length (numbers l)) places
+
+-- numbers laid from a place on, every other place as it was
+unfoldable pub laidFrom : ℕ → List ℕ → List ℕ → List ℕ
+laidFrom at ns places = (take at places ++ ns) ++ drop (at + length ns) places
+
+-- what is asked of the buckets of leaf q from a level on, to be named from a place of n places on
+pub record Room (h q from at n : ℕ) : Type 0 where
+  pub height : h ≤ 16
+  pub leaf : q < 2 ^ h
+  pub level : from ≤ h + 1
+  pub room : at + (h + 1 - from) ≤ n
 
 -- "with how many are whole and how many are least-record only"
 abbrev pub counts : BucketList → Listed

@@ -4,10 +4,10 @@
 // and `path`.
 ghost use mathlib.Core.Path.{_≡_};
 ghost use mathlib.Core.List.{map};
-ghost use Prim.Native.Nat.{_+_, _≤_, _<_, _^_};
+ghost use Prim.Native.Nat.{_≤_, _<_, _^_};
 ghost use lib.ListN.{length};
 ghost use Rattle.path.specs.Path.{path, siblingOf, number};
-ghost use Rattle.lists.specs.BucketList.{pairList, pathList, pairCounts, pathCounts, numbers, Names, moved};
+ghost use Rattle.lists.specs.BucketList.{pairList, pathList, pairCounts, pathCounts, numbers, laidFrom, Names, Room, moved};
 use path::Sizes;
 use path::sibling;
 use record::Leaf;
@@ -61,28 +61,30 @@ pub fn path_counts(sizes: Sizes) -> Listed
     Listed { whole: h, least: h }
 }
 
-// Names the path's buckets from a level down to the leaf, in a list just as long.
-fn name_path(sizes: Sizes, leaf: Leaf, from: u64, list: &mut [u64])
-    requires { ⌜ (sizes .h ≤ 16) × ((leaf .0 < 2 ^ sizes .h) × (from + length (now list) ≡ sizes .h + 1)) ⌝ }
-    ensures { λ _. ⌜ now (list .exit) ≡ map number (path (sizes .h) leaf from) ⌝ }
+// Names the path's buckets from a level down to the leaf, from a place of the list on.
+fn name_path(sizes: Sizes, leaf: Leaf, from: u64, list: &mut [u64], at: usize)
+    requires { ⌜ Room (sizes .h) (leaf .0) from at (length (now list)) ⌝ }
+    ensures { λ _. ⌜ now (list .exit) ≡ laidFrom at (map number (path (sizes .h) leaf from)) (now (list .entry)) ⌝ }
 {
+    let h = sizes.h;
     let mut level = from;
-    let mut i = 0;
-    while i < list.len() {
+    let mut i = at;
+    while level <= h {
         list[i] = sizes.bucket_at(leaf, level).0;
         i += 1;
         level += 1;
     }
 }
 
-// Names the siblings of these buckets, in a list just as long.
-fn name_siblings(sizes: Sizes, leaf: Leaf, from: u64, list: &mut [u64])
-    requires { ⌜ (sizes .h ≤ 16) × ((leaf .0 < 2 ^ sizes .h) × (from + length (now list) ≡ sizes .h + 1)) ⌝ }
-    ensures { λ _. ⌜ now (list .exit) ≡ map number (map siblingOf (path (sizes .h) leaf from)) ⌝ }
+// Names the siblings of these buckets.
+fn name_siblings(sizes: Sizes, leaf: Leaf, from: u64, list: &mut [u64], at: usize)
+    requires { ⌜ Room (sizes .h) (leaf .0) from at (length (now list)) ⌝ }
+    ensures { λ _. ⌜ now (list .exit) ≡ laidFrom at (map number (map siblingOf (path (sizes .h) leaf from))) (now (list .entry)) ⌝ }
 {
+    let h = sizes.h;
     let mut level = from;
-    let mut i = 0;
-    while i < list.len() {
+    let mut i = at;
+    while level <= h {
         list[i] = sibling(sizes.bucket_at(leaf, level)).0;
         i += 1;
         level += 1;
@@ -97,13 +99,10 @@ pub fn list_pair(sizes: Sizes, first: Leaf, second: Leaf, list: &mut [u64]) -> L
     ensures { λ r. ⌜ Names (pairList (sizes .h) first second) (now (list .entry)) (now (list .exit)) r ⌝ }
 {
     let h = sizes.h as usize;
-    let whole = h + h;
-    let half = whole + (h - 1);
-    let all = half + (h - 1);
-    name_path(sizes, first, 1, &mut list[..h]);
-    name_path(sizes, second, 1, &mut list[h..whole]);
-    name_siblings(sizes, first, 2, &mut list[whole..half]);
-    name_siblings(sizes, second, 2, &mut list[half..all]);
+    name_path(sizes, first, 1, list, 0);
+    name_path(sizes, second, 1, list, h);
+    name_siblings(sizes, first, 2, list, 2 * h);
+    name_siblings(sizes, second, 2, list, 3 * h - 1);
     pair_counts(sizes)
 }
 
@@ -114,8 +113,7 @@ pub fn list_path(sizes: Sizes, leaf: Leaf, list: &mut [u64]) -> Listed
     ensures { λ r. ⌜ Names (pathList (sizes .h) leaf) (now (list .entry)) (now (list .exit)) r ⌝ }
 {
     let h = sizes.h as usize;
-    let all = h + h;
-    name_path(sizes, leaf, 1, &mut list[..h]);
-    name_siblings(sizes, leaf, 1, &mut list[h..all]);
+    name_path(sizes, leaf, 1, list, 0);
+    name_siblings(sizes, leaf, 1, list, h);
     path_counts(sizes)
 }

@@ -28,7 +28,7 @@ use Rattle.card.specs.Calls.{startTable, listOf, beginTable, minTable}
 use Rattle.card.specs.Finish.{leftBy, damagedBy, entryTable, finishedBy}
 use Rattle.request.specs.Tables.{insertRows, extractRows, deleteRows, requestRows, waits}
 use Rattle.rack.specs.Answers.{anyOutside}
-use Rattle.rack.specs.Copy.{stored}
+use Rattle.copies.specs.Copy.{stored}
 use Rattle.decimal.specs.Digits.{digits, fewest, valueFrom}
 use Rattle.decimal.specs.Field.{allDigits, isNumber}
 use Rattle.lines.specs.Behind.{behind}

@@ -5,7 +5,7 @@ use lib.ListN.{length, replicate, drop}
 use Rattle.path.specs.Path.{bucket}
 use Rattle.path.specs.Layout.{recordWords}
 use Rattle.lists.specs.BucketList.{numbers}
-use Rattle.rack.specs.Copy.{bucketPart}
+use Rattle.copies.specs.Copy.{bucketPart}
 use Rattle.request.specs.declared.Waiting.{Waiting}
 use Rattle.card.specs.Calls.{listOf}
 use Rattle.lines.specs.Says.{lineSays}

@@ -9,7 +9,7 @@ use Rattle.lists.specs.declared.Listed.{Listed as Counts}
 use Rattle.lists.specs.BucketList.{BucketList}
 use Rattle.rack.specs.declared.Answer.{Answer}
 use Rattle.rack.specs.Answers.{answerNumber, isDone, copyTable}
-use Rattle.rack.specs.Copy.{listed, stored}
+use Rattle.copies.specs.Copy.{listed, stored}
 use Rattle.rack.specs.Promises.{Fetches, Stores}
 use Rattle.rack.proofs.AnswerLaws.{passed}
 use Rattle.refusal.specs.Refusal.{firstGiven}

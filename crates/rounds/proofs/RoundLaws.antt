@@ -8,7 +8,7 @@ use borrow.Author.Tests.{ne-eqb}
 use Rattle.lists.specs.declared.Listed.{Listed as Counts}
 use Rattle.lists.specs.BucketList.{BucketList, counts, laid}
 use Rattle.rack.specs.Refusals.{afterwards}
-use Rattle.rack.specs.Copy.{listed}
+use Rattle.copies.specs.Copy.{listed}
 use Rattle.rack.proofs.ListedLaws.{listed-laid}
 use Rattle.refusal.specs.Refusal.{firstGiven}
 use Rattle.card.specs.declared.Card.{Card}

@@ -9,7 +9,7 @@ use Rattle.lists.specs.BucketList.{BucketList, counts, laid}
 use Rattle.refusal.specs.Refusal.{firstGiven}
 use Rattle.rack.specs.Refusals.{afterwards}
 use Rattle.rack.specs.Answers.{copyRefusal}
-use Rattle.rack.specs.Copy.{fetched, stored}
+use Rattle.copies.specs.Copy.{fetched, stored}
 use Rattle.settle.specs.Left.{wordsLeft}
 use Rattle.card.specs.declared.Card.{Card}
 use Rattle.request.specs.declared.Waiting.{Waiting}

@@ -1,7 +1,7 @@
 // A request that is begun, carried to its end: document 01, "A request, step by step". `card` is the card before its begin.
 ghost use mathlib.Core.Path.{_≡_};
 ghost use Rattle.card.specs.Answers.{numberOf};
-ghost use Rattle.rack.specs.Copy.{listed};
+ghost use Rattle.copies.specs.Copy.{listed};
 ghost use Rattle.rounds.specs.Round.{countsIn, Carries};
 use crate::answer;
 use card::Card;

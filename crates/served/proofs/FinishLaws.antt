@@ -17,7 +17,7 @@ use Rattle.clearing.specs.Removal.{named, found}
 use Rattle.refusal.specs.Refusal.{firstGiven}
 use Rattle.judge.specs.BadParts.{stampOf}
 use Rattle.settle.specs.Left.{Left, wordsLeft, removal, insertion, removalDamaged, insertionDamaged}
-use Rattle.rack.specs.Copy.{fetched, stored}
+use Rattle.copies.specs.Copy.{fetched, stored}
 use Rattle.card.specs.declared.Card.{Card}
 use Rattle.request.specs.declared.Waiting.the-variants.{Insert, Extract, Delete}
 use Rattle.card.specs.Tables.{nextStamp, requestTable}

@@ -12,7 +12,7 @@ use Rattle.record.specs.Standing.{dummyKey, same}
 use Rattle.record.proofs.StandingLaws.{same-refl}
 use Rattle.refusal.specs.Refusal.{firstGiven}
 use Rattle.settle.specs.Left.{Left, wordsLeft}
-use Rattle.rack.specs.Copy.{fetched, stored}
+use Rattle.copies.specs.Copy.{fetched, stored}
 use Rattle.card.specs.declared.Card.{Card}
 use Rattle.request.specs.declared.Waiting.{Waiting}
 use Rattle.request.specs.declared.Waiting.the-variants.{Nothing, Insert, Extract, Delete}

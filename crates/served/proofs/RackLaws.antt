@@ -17,7 +17,7 @@ use Rattle.rack.specs.declared.Answer.{Answer}
 use Rattle.rack.specs.Answers.{answerNumber, wordsFor, anyOutside, copyRefusal}
 use Rattle.mend.specs.Mended.{pathWords}
 use Rattle.settle.specs.Left.{Left, wordsLeft}
-use Rattle.rack.specs.Copy.{fetchedWords, fetched, stored}
+use Rattle.copies.specs.Copy.{fetchedWords, fetched, stored}
 use Rattle.rack.specs.Promises.{Fetches, Stores}
 use Rattle.rack.proofs.ListedLaws.{listed-laid, laid-passes, path-list-inside, pair-list-inside}
 use Rattle.card.specs.declared.Card.{Card}

@@ -13,7 +13,7 @@ use Rattle.path.specs.Layout.{treeWords}
 use Rattle.lists.specs.BucketList.{BucketList}
 use Rattle.refusal.specs.Refusal.{firstGiven}
 use Rattle.settle.specs.Left.{Left}
-use Rattle.rack.specs.Copy.{fetched}
+use Rattle.copies.specs.Copy.{fetched}
 use Rattle.rack.specs.Refusals.{afterwards}
 use Rattle.card.specs.declared.Card.{Card}
 use Rattle.card.specs.declared.Done.{Done}

@@ -18,9 +18,9 @@ use Rattle.lists.specs.BucketList.{BucketList}
 use Rattle.gather.specs.Shown.{wholeAt, siblingAt}
 use Rattle.gather.proofs.ShownLaws.{whole-records}
 use Rattle.rack.specs.Answers.{wordsFor}
-use Rattle.rack.specs.Copy.{bucketPart, fetched, AllStand}
-use Rattle.rack.specs.BucketAt.{contentsOf, bucketAt}
-use Rattle.rack.proofs.FetchLaws.{fetched-whole, fetched-least, fetched-length}
+use Rattle.copies.specs.Copy.{bucketPart, fetched, AllStand}
+use Rattle.copies.specs.BucketAt.{contentsOf, bucketAt}
+use Rattle.copies.proofs.FetchLaws.{fetched-whole, fetched-least, fetched-length}
 
 first-of : (rs : List Record) → contentsOf rs .least ≡ getD rs 0 dummy
 first-of [] = refl

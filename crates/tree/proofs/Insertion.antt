@@ -23,7 +23,7 @@ use Rattle.mend.specs.Mended.{pathWords}
 use Rattle.work.specs.PathWork.{slotsAfter, pathBuckets, rootAfter, leastAfter}
 use Rattle.pair.specs.PairWork.{seated, firstBuckets, secondWay, secondBeside, secondBuckets, firstSiblings, secondSiblings}
 use Rattle.work.specs.RemovalWork.{rooted}
-use Rattle.rack.specs.Copy.{fetched, stored}
+use Rattle.copies.specs.Copy.{fetched, stored}
 use Rattle.tree.specs.Tree.{Tree, Alike, wayOf, besideOf, contents, treeOf}
 use Rattle.tree.specs.Work.{worked, afterFirst, inserted}
 use Rattle.tree.proofs.PathLaws.{laid-root, laid-on, laid-off}

@@ -18,12 +18,12 @@ use Rattle.path.proofs.PathLaws.{path-root, path-at}
 use Rattle.lists.proofs.ListLaws.{length-path}
 use Rattle.mend.specs.Mended.{pathWords}
 use Rattle.mend.proofs.PartLaws.{length-buckets}
-use Rattle.rack.specs.Copy.{stored, AllStand}
-use Rattle.rack.specs.BucketAt.{bucketAt}
-use Rattle.rack.proofs.LayoutLaws.{in-tree}
+use Rattle.copies.specs.Copy.{stored, AllStand}
+use Rattle.copies.specs.BucketAt.{bucketAt}
+use Rattle.copies.proofs.LayoutLaws.{in-tree}
 use Rattle.rack.proofs.ListedLaws.{pair-distinct}
-use Rattle.rack.proofs.RackLaws.{kept, each-stands, contentsAt}
-use Rattle.rack.proofs.StoreLaws.{stored-length}
+use Rattle.copies.proofs.ContentsLaws.{kept, each-stands, contentsAt}
+use Rattle.copies.proofs.StoreLaws.{stored-length}
 use Rattle.tree.specs.Tree.{Tree, InTree, Alike, contents, treeOf}
 use Rattle.tree.specs.Path.{OnPath, OffPath}
 use Rattle.tree.proofs.PathLaws.{same-or, path-or}

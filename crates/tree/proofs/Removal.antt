@@ -27,7 +27,7 @@ use Rattle.mend.specs.Mended.{pathWords, besideAt}
 use Rattle.work.specs.PathWork.{evicted, slotsAfter, pathBuckets, rootAfter, leastAfter}
 use Rattle.work.specs.RemovalWork.{removalBuckets, removalRoot, removalLeast, rooted}
 use Rattle.work.proofs.BesideLaws.{kids-same, mended-same}
-use Rattle.rack.specs.Copy.{fetched, stored}
+use Rattle.copies.specs.Copy.{fetched, stored}
 use Rattle.tree.specs.Tree.{Tree, Alike, wayOf, besideOf, treeOf}
 use Rattle.tree.specs.Work.{worked, taken}
 use Rattle.tree.proofs.FetchLaws.{fetched-long}

@@ -1,47 +1,15 @@
 use borrow.Author.Needs.{needs}
-use native.Mathlib.Omega.{arith}
 use mathlib.Core.Path.{sym, _∙_}
-use lib.Seq.{length-take-le}
-use Rattle.lists.proofs.ListLaws.{path-counts, length-path-numbers, path-laid}
+use Rattle.lists.proofs.ListLaws.{path-room, path-counts, path-laid}
 use Rattle.lists.proofs.list_path.Statement.{statement}
 use Rattle.lists.proofs.list_path.Tie as tie
 
-add-all : tie.Need-add-all
-add-all c = search needs
-
-slice-relend-prefix-name-path : tie.Need-slice-relend-prefix-name-path
-slice-relend-prefix-name-path c =
-    let s = c .before .args in
-    omega (arith, length-path-numbers (s .sizes .h) (s .leaf))
-
-slice-aggregate-name-path : tie.Need-slice-aggregate-name-path
-slice-aggregate-name-path c =
-    let s = c .before .before .args in
-    let n = length-path-numbers (s .sizes .h) (s .leaf) in
-    sym (length-take-le (s .sizes .h) (s .list .now) (omega arith))
-
 name-path-requires : tie.Need-name-path-requires
-name-path-requires c κs =
-    let s = c .before .before .args in
-    let n = length-path-numbers (s .sizes .h) (s .leaf) in
-    omega (arith, length-take-le (s .sizes .h) (s .list .now) (omega arith))
-
-mul-name-siblings : tie.Need-mul-name-siblings
-mul-name-siblings c = search needs
-
-sub-name-siblings : tie.Need-sub-name-siblings
-sub-name-siblings c = search needs
-
-part-name-siblings-start : tie.Need-part-name-siblings-start
-part-name-siblings-start c = search needs
-
-part-name-siblings-end : tie.Need-part-name-siblings-end
-part-name-siblings-end c =
-    let s = c .before .before .before .before .before .args in
-    omega (arith, length-path-numbers (s .sizes .h) (s .leaf))
+name-path-requires c κs = path-room _ _ _ (c .before .before .pre .0) (c .before .before .pre .1) .0
 
 name-siblings-requires : tie.Need-name-siblings-requires
-name-siblings-requires c κs = search needs
+name-siblings-requires c κs =
+    rw (c .before .before .before .name-path .kept .1 .1 .1 .0) (path-room _ _ _ (c .before .before .before .before .before .before .pre .0) (c .before .before .before .before .before .before .pre .1) .1)
 
 path-counts-requires : tie.Need-path-counts-requires
 path-counts-requires c κs = search needs
@@ -60,16 +28,4 @@ returns c =
 pub list-path-spec : {M : Type 1} → statement M
 list-path-spec =
     tie.close
-    (tie.spec
-    add-all
-    slice-relend-prefix-name-path
-    slice-aggregate-name-path
-    name-path-requires
-    mul-name-siblings
-    sub-name-siblings
-    part-name-siblings-start
-    part-name-siblings-end
-    name-siblings-requires
-    path-counts-requires
-    same-length
-    returns)
+    (tie.spec name-path-requires name-siblings-requires path-counts-requires same-length returns)

@@ -4,18 +4,18 @@ use Prim.Native.Nat.{suc, _-_}
 use mathlib.Core.Path.{ap, _∙_}
 use lib.ListN.{length}
 use Rattle.path.specs.Path.{pathBucket, siblingOf, number}
-use Rattle.lists.proofs.Naming.{Naming, naming-starts, naming-turns, naming-ends, siblings-named}
+use Rattle.lists.proofs.Naming.{Naming, naming-starts, naming-fits, naming-turns, naming-ends, siblings-named}
 use Rattle.lists.proofs.name_siblings.Statement.{statement}
 use Rattle.lists.proofs.name_siblings.Tie as tie
 
 abbrev Inv-loop : tie.InvT-loop
-Inv-loop sizes leaf from list₀ level₀ i₀ list level i = Naming (λ d. number (siblingOf (pathBucket (sizes .h) leaf d))) from list₀ list i level
+Inv-loop sizes leaf from list₀ at h level₀ i₀ list level i = Naming (λ d. number (siblingOf (pathBucket (sizes .h) leaf d))) from at (suc (sizes .h)) list₀ list i level
 
 abbrev μ-loop : tie.MeasureT-loop
-μ-loop sizes leaf from list₀ level₀ i₀ list level i = length list₀ - i
+μ-loop sizes leaf from list₀ at h level₀ i₀ list level i = suc (sizes .h) - level
 
 loop-holds : tie.Need-loop-holds Inv-loop μ-loop
-loop-holds c = naming-starts _ _ _
+loop-holds c = naming-starts _ _ _ _ _ (omega arith) (omega arith)
 
 bucket-at-requires : tie.Need-bucket-at-requires Inv-loop μ-loop
 bucket-at-requires c κs = search needs
@@ -27,7 +27,7 @@ mul-list : tie.Need-mul-list Inv-loop μ-loop
 mul-list c = search needs
 
 slice-write-list : tie.Need-slice-write-list Inv-loop μ-loop
-slice-write-list c = search needs
+slice-write-list c = naming-fits _ _ _ _ _ (omega arith) _ _ _ (c .before .before .before .loop .inv) (omega arith)
 
 add-i : tie.Need-add-i Inv-loop μ-loop
 add-i c = search needs
@@ -40,15 +40,14 @@ loop-less c = search needs
 
 loop-again : tie.Need-loop-again Inv-loop μ-loop
 loop-again c =
-    naming-turns _ _ _ _ _ _ _ (c .before .before .before .loop .inv) (c .before .before .loop-test .taken) (ap number (c .sibling .ensures ∙ ap siblingOf (c .before .bucket-at .ensures)))
+    naming-turns _ _ _ _ _ (omega arith) _ _ _ _ (c .before .before .before .loop .inv) (omega arith) (ap number (c .sibling .ensures ∙ ap siblingOf (c .before .bucket-at .ensures)))
 
 same-length : tie.Need-same-length Inv-loop μ-loop
 same-length c = c .before .loop .inv .room
 
 returns : tie.Need-returns Inv-loop μ-loop
 returns c =
-    let s = c .before .before .before .args in
-    naming-ends _ _ _ _ _ _ (suc (s .sizes .h) - s .from) (c .before .loop .inv) (c .loop-test .left) (omega arith) ∙ siblings-named _ _ _
+    naming-ends _ _ _ _ _ _ _ _ _ (c .before .loop .inv) (omega arith) (siblings-named _ _ _)
 
 pub name-siblings-spec : {M : Type 1} → statement M
 name-siblings-spec =

@@ -5,7 +5,7 @@ use Prim.Native.Nat.{_-_}
 use native.Mathlib.Omega.{arith}
 use mathlib.Core.Path.{_≡_, sym, _∙_}
 use lib.ListN.{length}
-use Rattle.rack.proofs.CopyLaws.{Copying, copying-starts, copying-turns, copying-ends}
+use Rattle.copies.proofs.CopyLaws.{Copying, copying-starts, copying-turns, copying-ends}
 use Rattle.told.proofs.fill.Statement.{statement}
 use Rattle.told.proofs.fill.Tie as tie
 

@@ -4,7 +4,7 @@ use native.Mathlib.Omega.{arith}
 use mathlib.Core.Path.{sym, _∙_}
 use borrow.Author.Tests.{not-true, not-false}
 use Rattle.path.proofs.SizesLaws.{tree-in}
-use Rattle.rack.proofs.LayoutLaws.{leaves-few, tree-small}
+use Rattle.copies.proofs.LayoutLaws.{leaves-few, tree-small}
 use Rattle.turns.specs.Step.{wordsOf}
 use Rattle.turns.proofs.room.tree_words.Statement.{statement}
 use Rattle.turns.proofs.room.tree_words.Tie as tie

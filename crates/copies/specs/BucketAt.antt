@@ -6,7 +6,7 @@ use Rattle.record.specs.declared.Record.{Record}
 use Rattle.record.specs.Standing.{dummy}
 use Rattle.record.specs.Words.{records}
 use Rattle.path.specs.Layout.{Contents}
-use Rattle.rack.specs.Copy.{bucketPart}
+use Rattle.copies.specs.Copy.{bucketPart}
 
 -- "first its least record, then its slots"
 abbrev pub contentsOf : List Record → Contents

@@ -1,6 +1,8 @@
 -- What fetch gives and store leaves: document 01, "A request, step by step" and "Records and numbering". Assumes nothing.
 use Prim.Native.Nat.{ℕ, _+_, _≤_}
+use mathlib.Core.Bool.{cond}
 use mathlib.Core.List.{List, [], _∷_, _++_, map, flatMap, List·Memᴰ}
+use lib.Dec.{ltb}
 use lib.ListN.{length, take, drop}
 use lib.Seq.{paste}
 use Rattle.record.specs.declared.Bucket.{Bucket}
@@ -28,6 +30,10 @@ listed list whole least =
 abbrev pub fetchedWords : ℕ → List ℕ → BucketList → List ℕ
 fetchedWords z tree l = flatMap (bucketPart z tree) (l .whole) ++ flatMap (leastPart z tree) (l .least)
 
+-- how many words of its i-th bucket that is
+unfoldable pub partWords : ℕ → ℕ → ℕ → ℕ
+partWords z whole i = cond (ltb i whole) (bucketWords z) recordWords
+
 -- "fetched words past these stay"
 abbrev pub fetched : ℕ → List ℕ → BucketList → List ℕ → List ℕ
 fetched z tree l words = fetchedWords z tree l ++ drop (length (fetchedWords z tree l)) words
@@ -45,3 +51,9 @@ pub record Stands (z n : ℕ) (b : Bucket) : Type 0 where
 
 abbrev pub AllStand : ℕ → ℕ → List Bucket → Type 0
 AllStand z n bs = (b : Bucket) → List·Memᴰ b bs → Stands z n b
+
+-- what is asked of the first so many numbers of a list, for a tree of n words
+pub record Covered (z n : ℕ) (list : List ℕ) (many : ℕ) : Type 0 where
+  pub slots : z ≤ 5
+  pub counted : many ≤ length list
+  pub stand : AllStand z n (map bucket (take many list))

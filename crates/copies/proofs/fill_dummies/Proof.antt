@@ -1,12 +1,12 @@
--- `rack::copy::fill_dummies` meets its contract. The loop: `Filling`. Assumes nothing.
+-- `copies::fill_dummies` meets its contract. The loop: `Filling`. Assumes nothing.
 use borrow.Author.Needs.{needs}
 use native.Mathlib.Omega.{arith}
 use Prim.Native.Nat.{_-_, _/_, _≤_}
 use mathlib.Core.Path.{_≡_, _∙_}
 use lib.ListN.{length}
-use Rattle.rack.proofs.CopyLaws.{Filling, filling-starts, filling-turns, filling-ends}
-use Rattle.rack.proofs.copy.fill_dummies.Statement.{statement}
-use Rattle.rack.proofs.copy.fill_dummies.Tie as tie
+use Rattle.copies.proofs.CopyLaws.{Filling, filling-starts, filling-turns, filling-ends}
+use Rattle.copies.proofs.fill_dummies.Statement.{statement}
+use Rattle.copies.proofs.fill_dummies.Tie as tie
 
 abbrev Inv-loop : tie.InvT-loop
 Inv-loop tree₀ dummy places place₀ tree place = (place ≤ places) × Filling tree₀ tree place

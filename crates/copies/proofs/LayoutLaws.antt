@@ -13,7 +13,7 @@ use Rattle.path.specs.Path.{bucket}
 use Rattle.path.specs.Sizes.{leavesOf, treeIn}
 use Rattle.path.specs.Layout.{bucketWords, treeWords}
 use Rattle.path.proofs.SizesLaws.{tree-in}
-use Rattle.rack.specs.Copy.{partOf, Stands, AllStand}
+use Rattle.copies.specs.Copy.{partOf, Stands, AllStand}
 
 -- ---- the tree
 -- N, at most 2^16

@@ -9,10 +9,9 @@ use lib.Seq.{take-at, drop-at, drop-drop}
 use Rattle.record.specs.declared.Bucket.{Bucket}
 use Rattle.path.specs.Path.{bucket}
 use Rattle.path.specs.Layout.{recordWords, bucketWords}
-use Rattle.lists.specs.BucketList.{BucketList}
-use Rattle.rack.specs.Answers.{wordsFor}
-use Rattle.rack.specs.Copy.{partOf, bucketPart, leastPart, fetchedWords, fetched, AllStand}
-use Rattle.rack.proofs.LayoutLaws.{part-length, parts-length}
+use Rattle.lists.specs.BucketList.{BucketList, counts, fetchedFor}
+use Rattle.copies.specs.Copy.{partOf, bucketPart, leastPart, fetchedWords, fetched, AllStand}
+use Rattle.copies.proofs.LayoutLaws.{part-length, parts-length}
 
 -- part i of equal parts laid one after the other, whatever follows
 parts-at :
@@ -42,7 +41,7 @@ module _ (z : ℕ) (tree : List ℕ) (l : BucketList) (words : List ℕ) (wholes
   fetched-whole i n = rw append-assoc (parts-at z (bucketWords z) tree (l .whole) _ i (omega arith) wholes n)
 
   module _ (leasts : AllStand z (length tree) (l .least)) where
-    pub fetched-length : length (fetchedWords z tree l) ≡ wordsFor z (length (l .whole)) (length (l .least))
+    pub fetched-length : length (fetchedWords z tree l) ≡ fetchedFor z (counts l)
     fetched-length =
         length-append (flatMap (bucketPart z tree) (l .whole)) _
         ∙ rw (whole-length, parts-length z recordWords tree (omega arith) (l .least) leasts)
@@ -58,6 +57,6 @@ module _ (z : ℕ) (tree : List ℕ) (l : BucketList) (words : List ℕ) (wholes
 
     -- "fetched words past these stay"
     pub fetched-past :
-        drop (wordsFor z (length (l .whole)) (length (l .least))) (fetched z tree l words)
-        ≡ drop (wordsFor z (length (l .whole)) (length (l .least))) words
+        drop (fetchedFor z (counts l)) (fetched z tree l words)
+        ≡ drop (fetchedFor z (counts l)) words
     fetched-past = drop-at (fetchedWords z tree l) _ _ fetched-length ∙ rw fetched-length

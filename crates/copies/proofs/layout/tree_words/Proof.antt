@@ -1,9 +1,9 @@
--- `rack::layout::tree_words` meets its contract: a tree of sizes in range is small. Assumes nothing.
+-- `copies::layout::tree_words` meets its contract: a tree of sizes in range is small. Assumes nothing.
 use native.Mathlib.Omega.{arith}
 use Rattle.path.proofs.SizesLaws.{tree-in}
-use Rattle.rack.proofs.LayoutLaws.{leaves-few, tree-small}
-use Rattle.rack.proofs.layout.tree_words.Statement.{statement}
-use Rattle.rack.proofs.layout.tree_words.Tie as tie
+use Rattle.copies.proofs.LayoutLaws.{leaves-few, tree-small}
+use Rattle.copies.proofs.layout.tree_words.Statement.{statement}
+use Rattle.copies.proofs.layout.tree_words.Tie as tie
 
 bucket-words-requires : tie.Need-bucket-words-requires
 bucket-words-requires c κs = omega (arith, tree-in _ _ (c .pre))

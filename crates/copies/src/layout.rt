@@ -9,16 +9,18 @@ use path::leaves;
 use record::RECORD_WORDS;
 
 // The tree begins with bucket 2: the root is on the card.
-pub(crate) const FIRST_BUCKET: u64 = 2;
+pub const FIRST_BUCKET: u64 = 2;
 
-pub(crate) fn bucket_words(z: u64) -> usize
+// For crates above.
+pub fn bucket_words(z: u64) -> usize
     requires { ⌜ z ≤ 5 ⌝ }
     ensures { λ r. ⌜ r ≡ bucketWords z ⌝ }
 {
     RECORD_WORDS * (z as usize + 1)
 }
 
-pub(crate) fn tree_words(h: u64, z: u64) -> usize
+// For crates above.
+pub fn tree_words(h: u64, z: u64) -> usize
     requires { ⌜ treeIn h z ≡ true ⌝ }
     ensures { λ r. ⌜ r ≡ treeWords h z ⌝ }
 {

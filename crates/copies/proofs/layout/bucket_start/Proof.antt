@@ -1,7 +1,7 @@
--- `rack::layout::bucket_start` meets its contract. Assumes nothing.
+-- `copies::layout::bucket_start` meets its contract. Assumes nothing.
 use borrow.Author.Needs.{needs}
-use Rattle.rack.proofs.layout.bucket_start.Statement.{statement}
-use Rattle.rack.proofs.layout.bucket_start.Tie as tie
+use Rattle.copies.proofs.layout.bucket_start.Statement.{statement}
+use Rattle.copies.proofs.layout.bucket_start.Tie as tie
 
 bucket-words-requires : tie.Need-bucket-words-requires
 bucket-words-requires c κs = search needs

@@ -16,12 +16,12 @@ use Rattle.path.specs.Path.{bucket, number}
 use Rattle.path.specs.Sizes.{leavesOf}
 use Rattle.path.specs.Layout.{recordWords, bucketWords, bucketStart, treeWords, freshTree}
 use Rattle.lists.specs.BucketList.{BucketList}
-use Rattle.rack.specs.Copy.{bucketPart, leastPart, fetchedWords, stored, Stands, AllStand}
+use Rattle.copies.specs.Copy.{bucketPart, leastPart, fetchedWords, stored, Stands, AllStand}
 use Rattle.path.specs.Layout.{Contents}
-use Rattle.rack.specs.BucketAt.{contentsOf, recordsIn, bucketAt}
-use Rattle.rack.proofs.PartLaws.{part-replicate}
-use Rattle.rack.proofs.LayoutLaws.{part-length}
-use Rattle.rack.proofs.StoreLaws.{Distinct, stored-other, stored-last, stored-each}
+use Rattle.copies.specs.BucketAt.{contentsOf, recordsIn, bucketAt}
+use Rattle.copies.proofs.PartLaws.{part-replicate}
+use Rattle.copies.proofs.LayoutLaws.{part-length}
+use Rattle.copies.proofs.StoreLaws.{Distinct, stored-other, stored-last, stored-each}
 
 -- ---- fetch
 -- words of whole records, and what follows them
