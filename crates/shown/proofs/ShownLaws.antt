@@ -15,24 +15,31 @@ use Rattle.gather.specs.Shown.{siblingsShown, slotsShown, wayShown}
 use Rattle.gather.proofs.LaidLaws.{laid-last}
 use Rattle.gather.proofs.ShownLaws.{siblings-length}
 use Rattle.gather.proofs.LoadedLaws.{way-loaded}
+use Rattle.shown.specs.WayRoom.{WayRoom}
 use Rattle.shown.specs.PathShown.{PathShown, PathRoom}
 use Rattle.shown.specs.PairShown.{SiblingRoom, SiblingsBelow, PairShown, PairShownRoom}
 
+-- the root's slots, then those of n whole buckets, in a scratch just as long
+pub way-shown :
+    (s : Sizes) (n : ℕ) (root : List Record) (ws w₀ w₁ w₂ : List ℕ) → WayRoom s n ws w₀ → length root ≡ 64
+    → w₁ ≡ laidOver w₀ 0 (take (s .r) root) → w₂ ≡ laidOver w₁ (s .r) (slotsShown (s .z) ws 0 n)
+    → records w₂ ≡ wayShown n (s .z) (s .r) root ws 0
+way-shown s n root ws w₀ w₁ w₂ room full one two =
+    ap records two
+    ∙ way-loaded n (s .z) (s .r) root ws 0 (omega (arith, room .roots)) (omega (arith, room .fetched)) w₀ (room .slots) w₁ one
+
 pub path-shown :
-    (s : Sizes) (root : List Record) (ws w₀ b₀ w₁ w₂ b₁ : List ℕ) → PathRoom s ws w₀ b₀ → length root ≡ 64
-    → w₁ ≡ laidOver w₀ 0 (take (s .r) root) → w₂ ≡ laidOver w₁ (s .r) (slotsShown (s .z) ws 0 (s .h))
-    → (moved : ℕ) → SiblingsLoaded (s .z) ws (s .h) 0 1 (s .h + 1 - 1) b₀ b₁ moved → PathShown s root ws w₂ b₁ moved
-path-shown s root ws w₀ b₀ w₁ w₂ b₁ room full one two moved three =
+    (s : Sizes) (root : List Record) (ws w₀ b₀ w₁ b₁ : List ℕ) → PathRoom s ws w₀ b₀ → records w₁ ≡ wayShown (s .h) (s .z) (s .r) root ws 0
+    → (moved : ℕ) → SiblingsLoaded (s .z) ws (s .h) 0 1 (s .h + 1 - 1) b₀ b₁ moved → PathShown s root ws w₁ b₁ moved
+path-shown s root ws w₀ b₀ w₁ b₁ room way moved loaded =
     let n : s .h + 1 - 1 ≡ s .h = omega arith in
     let k = siblings-length (s .z) ws (s .h) 0 (s .h) in
     record {
-      way =
-          ap records two
-          ∙ way-loaded (s .h) (s .z) (s .r) root ws 0 (omega (arith, room .roots)) (omega (arith, room .fetched)) w₀ (room .slots) w₁ one;
+      way = way;
       siblings =
-          ap records (rw n at (three .laid))
+          ap records (rw n at (loaded .laid))
           ∙ laid-last b₀ 0 (siblingsShown (s .z) ws (s .h) 0 (s .h)) (omega (arith, room .siblings)) (omega (arith, room .siblings));
-      counted = rw n at (three .counted);
+      counted = rw n at (loaded .counted);
     }
 
 -- the dummy at level 1's place, then the siblings from level 2 on
@@ -57,26 +64,15 @@ siblings-shown s skip ws b₀ b₁ b₂ room one moved two =
       counted = rw n at (two .counted);
     }
 
--- a way in a scratch just as long: the root's slots, then those of n whole buckets
-way-shown :
-    (n z r : ℕ) (root : List Record) (ws w₀ w₁ w₂ : List ℕ) → r ≤ length root → 4 * (n * (z + 1)) ≤ length ws
-    → length w₀ ≡ 4 * (r + z * n) → w₁ ≡ laidOver w₀ 0 (take r root) → w₂ ≡ laidOver w₁ r (slotsShown z ws 0 n)
-    → records w₂ ≡ wayShown n z r root ws 0
-way-shown n z r root ws w₀ w₁ w₂ full given long one two =
-    ap records two ∙ way-loaded n z r root ws 0 full (omega arith) w₀ long w₁ one
-
 pub pair-shown :
-    (s : Sizes) (root : List Record) (ws w₀ one₀ two₀ all₀ w₁ w₂ one two all₁ all₂ : List ℕ)
-    → PairShownRoom s ws w₀ one₀ two₀ all₀ → length root ≡ 64
-    → w₁ ≡ laidOver w₀ 0 (take (s .r) root) → w₂ ≡ laidOver w₁ (s .r) (slotsShown (s .z) ws 0 (s .h))
+    (s : Sizes) (root : List Record) (ws w one two all : List ℕ) → records w ≡ wayShown (s .h) (s .z) (s .r) root ws 0
     → (m n : ℕ) → SiblingsBelow s ws 0 one m → SiblingsBelow s ws (s .h - 1) two n
-    → all₁ ≡ laidOver all₀ 0 (take (s .r) root) → all₂ ≡ laidOver all₁ (s .r) (slotsShown (s .z) ws 0 (2 * s .h))
-    → PairShown s root ws w₂ one two all₂ (m + n)
-pair-shown s root ws w₀ one₀ two₀ all₀ w₁ w₂ one two all₁ all₂ room full e₁ e₂ m n e₃ e₄ e₅ e₆ =
+    → records all ≡ wayShown (2 * s .h) (s .z) (s .r) root ws 0 → PairShown s root ws w one two all (m + n)
+pair-shown s root ws w one two all way m n first second slots =
     record {
-      way = way-shown (s .h) (s .z) (s .r) root ws w₀ w₁ w₂ (omega (arith, room .roots)) (omega (arith, room .fetched)) (room .ways) e₁ e₂;
-      first = e₃ .siblings;
-      second = e₄ .siblings;
-      slots = way-shown (2 * s .h) (s .z) (s .r) root ws all₀ all₁ all₂ (omega (arith, room .roots)) (omega (arith, room .fetched)) (room .alls) e₅ e₆;
-      counted = omega (arith, e₃ .counted, e₄ .counted);
+      way = way;
+      first = first .siblings;
+      second = second .siblings;
+      slots = slots;
+      counted = omega (arith, first .counted, second .counted);
     }

@@ -1,12 +1,8 @@
+-- `show_siblings`: the dummy at the place of level 1, then the siblings from level 2 on. Assumes nothing.
 use borrow.Author.Needs.{needs}
-use native.Mathlib.Omega.{arith}
 use Rattle.shown.proofs.ShownLaws.{siblings-shown}
 use Rattle.shown.proofs.show_siblings.Statement.{statement}
 use Rattle.shown.proofs.show_siblings.Tie as tie
-use Rattle.shown.proofs.show_siblings.Reads as reads
-use Rattle.shown.proofs.show_siblings.Lts as lts
-use Rattle.gather.proofs.load_siblings.Reads as load-siblings-reads
-use Rattle.record.proofs.Record.write.Reads as write-reads
 
 write-requires : tie.Need-write-requires
 write-requires c κs = search needs
