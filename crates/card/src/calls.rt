@@ -1,23 +1,43 @@
 // The calls on a card but finish: document 01, "A request, step by step". Each hands back the new card and the answer; a
 // refused call hands back the card as it came, and its number.
 ghost use mathlib.Core.Path.{_≡_};
+ghost use lib.ListN.{length};
+ghost use Rattle.lists.specs.BucketList.{Names};
 ghost use Rattle.refusal.specs.Refusal.{firstGiven};
 ghost use Rattle.path.specs.Sizes.{sizesOf};
 ghost use Rattle.card.specs.Answers.{refused, Answered};
-ghost use Rattle.card.specs.Calls.{freshCard, zeroCard, startTable, started, listed, Begins, minTable, foundMin, withdrawTable, withdrawn};
+ghost use Rattle.card.specs.Calls.{freshCard, zeroCard, startTable, started, listFor, Listable, listed, Begins, minTable, foundMin, withdrawTable, withdrawn};
 use crate::Answer;
 use crate::Card;
 use crate::Done;
 use crate::why::why_begin;
-use crate::why::why_min;
-use crate::why::why_withdraw;
 use lists::Listed;
 use path::Sizes;
 use record::Leaf;
 use record::Record;
 use record::Stamp;
 use refusal::BAD_SIZE;
+use refusal::EMPTY;
 use request::Waiting;
+
+// The bucket list of a request, laid in the lent places; `least` is the label of the root's least record.
+fn list_of(sizes: Sizes, least: Leaf, request: Waiting, list: &mut [u64]) -> Listed
+    requires { ⌜ Listable sizes least request (length (now list)) ⌝ }
+    ensures { λ n. ⌜ Names (listFor (sizes .h) least request) (now (list .entry)) (now (list .exit)) n ⌝ }
+{
+    match request {
+        Waiting::Nothing => Listed { whole: 0, least: 0 },
+        Waiting::Insert {
+            key: _,
+            value: _,
+            label: _,
+            first,
+            second,
+        } => lists::list_pair(sizes, first, second, list),
+        Waiting::Extract => lists::list_path(sizes, least, list),
+        Waiting::Delete { label, stamp: _ } => lists::list_path(sizes, label, list),
+    }
+}
 
 impl Card {
     // A card on which nothing is finished, live or waiting.
@@ -117,6 +137,18 @@ impl Card {
         }
     }
 
+    // Begin: a request that is not refused waits, and its list is laid.
+    fn begin(self, request: Waiting, list: &mut [u64]) -> Done
+        ensures { λ d. ⌜ Begins self request (now (list .entry)) (now (list .exit)) d ⌝ }
+    {
+        let number = why_begin(self, request, list.len());
+        if number != 0 {
+            return self.refuse(number);
+        }
+        let counts = list_of(self.sizes, self.least.label, request, list);
+        self.begun(request, counts)
+    }
+
     pub fn begin_insert(
         self,
         key: u64,
@@ -135,24 +167,14 @@ impl Card {
             first: first,
             second: second,
         };
-        let number = why_begin(self, request, list.len());
-        if number != 0 {
-            return self.refuse(number);
-        }
-        let counts = lists::list_pair(self.sizes, first, second, list);
-        self.begun(request, counts)
+        self.begin(request, list)
     }
 
     pub fn begin_extract(self, list: &mut [u64]) -> Done
         ensures { λ d. ⌜ Begins self Waiting.Extract (now (list .entry)) (now (list .exit)) d ⌝ }
     {
         let request = Waiting::Extract;
-        let number = why_begin(self, request, list.len());
-        if number != 0 {
-            return self.refuse(number);
-        }
-        let counts = lists::list_path(self.sizes, self.least.label, list);
-        self.begun(request, counts)
+        self.begin(request, list)
     }
 
     pub fn begin_delete(self, label: Leaf, stamp: Stamp, list: &mut [u64]) -> Done
@@ -162,23 +184,23 @@ impl Card {
             label: label,
             stamp: stamp,
         };
-        let number = why_begin(self, request, list.len());
-        if number != 0 {
-            return self.refuse(number);
-        }
-        let counts = lists::list_path(self.sizes, label, list);
-        self.begun(request, counts)
+        self.begin(request, list)
     }
 
     // At once, and no finished request: the list is empty, and no words are moved.
     pub fn find_min(self) -> Done
         ensures { λ d. ⌜ Answered self (firstGiven (minTable self)) (foundMin self) d ⌝ }
     {
-        let number = why_min(self);
+        let root = self.root;
+        let least = self.least;
+        let waiting = self.waiting;
+        let number = checks::why_busy(root, self.sizes, self.t, self.c, least, waiting);
         if number != 0 {
             return self.refuse(number);
         }
-        let least = self.least;
+        if self.c == 0 {
+            return self.refuse(EMPTY);
+        }
         let answer = Answer::Least(least);
         Done {
             card: self,
@@ -189,14 +211,17 @@ impl Card {
     pub fn withdraw(self) -> Done
         ensures { λ d. ⌜ Answered self (firstGiven (withdrawTable self)) (withdrawn self) d ⌝ }
     {
-        let number = why_withdraw(self);
+        let root = self.root;
+        let least = self.least;
+        let waiting = self.waiting;
+        let number = checks::why_idle(root, self.sizes, self.t, self.c, least, waiting);
         if number != 0 {
             return self.refuse(number);
         }
-        let waiting = Waiting::Nothing;
+        let none = Waiting::Nothing;
         let answer = Answer::Withdrawn;
         let card = Card {
-            waiting: waiting,
+            waiting: none,
             ..self
         };
         Done {

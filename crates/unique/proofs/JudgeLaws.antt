@@ -23,6 +23,12 @@ use Rattle.sound.proofs.all_sound.Kinds as all-sound-kinds
 use Rattle.sound.proofs.all_sound.Reads as all-sound
 use Rattle.truth.proofs.leasts_true.Kinds as leasts-true-kinds
 use Rattle.truth.proofs.leasts_true.Reads as leasts-true
+use Rattle.checks.proofs.why_busy.Kinds as why-busy-kinds
+use Rattle.checks.proofs.why_busy.Reads as why-busy
+use Rattle.checks.proofs.why_idle.Kinds as why-idle-kinds
+use Rattle.checks.proofs.why_idle.Reads as why-idle
+use Rattle.checks.proofs.why_begin.Kinds as why-begin-kinds
+use Rattle.checks.proofs.why_begin.Reads as why-begin
 use Rattle.damage.proofs.path_damaged.Kinds as path-damaged-kinds
 use Rattle.damage.proofs.path_damaged.Reads as path-damaged
 use Rattle.damage.proofs.pair_damaged.Kinds as pair-damaged-kinds
@@ -39,6 +45,8 @@ use Rattle.removal.proofs.settle_removal.Kinds as settle-removal-kinds
 use Rattle.removal.proofs.settle_removal.Reads as settle-removal
 use Rattle.insertion.proofs.settle_insertion.Kinds as settle-insertion-kinds
 use Rattle.insertion.proofs.settle_insertion.Reads as settle-insertion
+use Rattle.finishes.proofs.settle_request.Kinds as settle-request-kinds
+use Rattle.finishes.proofs.settle_request.Reads as settle-request
 
 pub one-is-waiting : Determines 0 is-waiting-kinds.ps is-waiting-kinds.r is-waiting.Asked is-waiting.Learnt
 one-is-waiting =
@@ -90,6 +98,21 @@ one-leasts-true =
     one-answer 2 leasts-true-kinds.ps leasts-true-kinds.r leasts-true.Asked leasts-true.Learnt _ _
     (λ κs a ok x xs f p. (p, refl))
 
+pub one-why-busy : Determines 0 why-busy-kinds.ps why-busy-kinds.r why-busy.Asked why-busy.Learnt
+one-why-busy =
+    one-answer 0 why-busy-kinds.ps why-busy-kinds.r why-busy.Asked why-busy.Learnt _ _
+    (λ κs a ok x xs f p. (p, refl))
+
+pub one-why-idle : Determines 0 why-idle-kinds.ps why-idle-kinds.r why-idle.Asked why-idle.Learnt
+one-why-idle =
+    one-answer 0 why-idle-kinds.ps why-idle-kinds.r why-idle.Asked why-idle.Learnt _ _
+    (λ κs a ok x xs f p. (p, refl))
+
+pub one-why-begin : Determines 0 why-begin-kinds.ps why-begin-kinds.r why-begin.Asked why-begin.Learnt
+one-why-begin =
+    one-answer 0 why-begin-kinds.ps why-begin-kinds.r why-begin.Asked why-begin.Learnt _ _
+    (λ κs a ok x xs f p. (p, refl))
+
 pub one-path-damaged : Determines 3 path-damaged-kinds.ps path-damaged-kinds.r path-damaged.Asked path-damaged.Learnt
 one-path-damaged =
     one-answer 3 path-damaged-kinds.ps path-damaged-kinds.r path-damaged.Asked path-damaged.Learnt _ _
@@ -129,3 +152,8 @@ pub one-settle-insertion : Determines 1 settle-insertion-kinds.ps settle-inserti
 one-settle-insertion =
     one-answer 1 settle-insertion-kinds.ps settle-insertion-kinds.r settle-insertion.Asked settle-insertion.Learnt _ _
     (λ κs a ok x xs f p. (p .whole, λ i. (p .words i, (tt, (tt, (tt, (tt, (tt, (tt, (tt, (tt, tt)))))))))))
+
+pub one-settle-request : Determines 1 settle-request-kinds.ps settle-request-kinds.r settle-request.Asked settle-request.Learnt
+one-settle-request =
+    one-answer 1 settle-request-kinds.ps settle-request-kinds.r settle-request.Asked settle-request.Learnt _ _
+    (λ κs a ok x xs f p. (p .whole, λ i. (p .words i, (tt, (tt, (tt, (tt, (tt, (tt, tt)))))))))
