@@ -27,6 +27,10 @@ use Rattle.told.proofs.settle.Kinds as settle-kinds
 use Rattle.told.proofs.settle.Reads as settle
 use Rattle.told.proofs.tell.Kinds as tell-kinds
 use Rattle.told.proofs.tell.Reads as tell
+use Rattle.values.proofs.number_of.Kinds as number-of-kinds
+use Rattle.values.proofs.number_of.Reads as number-of
+use Rattle.values.proofs.values_of.Kinds as values-of-kinds
+use Rattle.values.proofs.values_of.Reads as values-of
 use Rattle.image.proofs.is_odd.Kinds as is-odd-kinds
 use Rattle.image.proofs.is_odd.Reads as is-odd
 use Rattle.image.proofs.read.Kinds as read-kinds
@@ -93,6 +97,16 @@ pub one-tell : Determines 1 tell-kinds.ps tell-kinds.r tell.Asked tell.Learnt
 one-tell =
     one-answer 1 tell-kinds.ps tell-kinds.r tell.Asked tell.Learnt _ _
     (λ κs a ok x xs f p. (p .number, λ i. (tt, (p .answer i, tt))))
+
+pub one-number-of : Determines 0 number-of-kinds.ps number-of-kinds.r number-of.Asked number-of.Learnt
+one-number-of =
+    one-answer 0 number-of-kinds.ps number-of-kinds.r number-of.Asked number-of.Learnt _ _
+    (λ κs a ok x xs f p. (p, refl))
+
+pub one-values-of : Determines 0 values-of-kinds.ps values-of-kinds.r values-of.Asked values-of.Learnt
+one-values-of =
+    one-answer 0 values-of-kinds.ps values-of-kinds.r values-of.Asked values-of.Learnt _ _
+    (λ κs a ok x xs f p. (p, refl))
 
 pub one-is-odd : Determines 1 is-odd-kinds.ps is-odd-kinds.r is-odd.Asked is-odd.Learnt
 one-is-odd =
