@@ -1,2 +1,3 @@
 -- What a reader must believe of the driver's entrance.
 pub mod Driven
+pub mod Held
