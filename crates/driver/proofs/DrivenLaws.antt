@@ -7,20 +7,19 @@ use native.Mathlib.Omega.{arith}
 use lib.Dec.{eqb}
 use lib.ListN.{length}
 use borrow.Author.Tests.{ne-eqb}
-use Rattle.path.specs.Sizes.{inRange, treeIn, between}
 use Rattle.lists.specs.BucketList.{laid}
 use Rattle.refusal.specs.Refusal.{Refusal, firstGiven}
 use Rattle.card.specs.declared.Card.{Card}
 use Rattle.card.specs.declared.Done.{Done}
 use Rattle.request.specs.declared.Waiting.{Waiting}
 use Rattle.card.specs.Answers.{numberOf, Answered}
-use Rattle.card.specs.BadCard.{badCard}
-use Rattle.card.specs.Calls.{listOf, beginTable, begun, Begins, minTable, withdrawTable}
-use Rattle.card.specs.Finish.{entryTable, finishTable, finished, Finishes}
-use Rattle.card.proofs.GoodLaws.{good}
+use Rattle.card.specs.Calls.{listOf, beginTable, begun, Begins}
+use Rattle.card.specs.Finish.{finishTable, finished, Finishes}
 use Rattle.image.specs.Image.{imageOf}
 use Rattle.image.specs.Reading.{cardIn, oddKind}
 use Rattle.image.proofs.ImageLaws.{card-image, image-even}
+use Rattle.held.specs.Held.{noCard, heldIn}
+use Rattle.held.proofs.HeldLaws.{none-begins, none-finishes, held-odd, held-even}
 use Rattle.rack.specs.declared.Answer.{Answer}
 use Rattle.rack.specs.Answers.{answerNumber}
 use Rattle.rack.specs.Promises.{Answers}
@@ -28,7 +27,6 @@ use Rattle.rack.specs.Refusals.{afterwards}
 use Rattle.told.specs.Told.{Called, Settled, Zeroed}
 use Rattle.told.proofs.ToldLaws.{called, card-left}
 use Rattle.driver.specs.Driven.{onCard, BeginsAt, leftOn, FinishesAt, Racked}
-use Rattle.driver.specs.Held.{noCard, heldIn}
 
 -- ---- the kind comes first
 module _ (ws : List ℕ) (table : Card → List Refusal) where
@@ -40,41 +38,7 @@ module _ (ws : List ℕ) (table : Card → List Refusal) where
   unfolding firstGiven
   even-card h = rw h
 
--- ---- a card that is bad takes the place of one that there is not
-bad-sizes : (k : Card) → inRange (k .sizes) ≡ false → (b : Bool) → badCard k ≡ b → b ≡ true
-bad-sizes k h true e = refl
-bad-sizes k h false e = sym (sym (good k e .sizes) ∙ h)
-
-none-bad : badCard noCard ≡ true
-unfolding inRange treeIn between
-none-bad = bad-sizes noCard refl (badCard noCard) refl
-
--- what the tables of the calls on a card say of it
-pub none-begins : (w : Waiting) (room : ℕ) → firstGiven (beginTable noCard w room) ≡ 13
-unfolding beginTable firstGiven
-none-begins w room = rw none-bad
-
-pub none-least : firstGiven (minTable noCard) ≡ 13
-unfolding minTable firstGiven
-none-least = rw none-bad
-
-pub none-withdraws : firstGiven (withdrawTable noCard) ≡ 13
-unfolding withdrawTable firstGiven
-none-withdraws = rw none-bad
-
-none-finishes : (fetched : List ℕ) → firstGiven (finishTable noCard fetched) ≡ 13
-unfolding entryTable firstGiven
-none-finishes fetched = rw none-bad
-
 -- ---- a call on the card that is held
-pub held-odd : (ws : List ℕ) → oddKind ws ≡ true → heldIn ws ≡ noCard
-unfolding heldIn
-held-odd ws h = rw h
-
-pub held-even : (ws : List ℕ) → oddKind ws ≡ false → heldIn ws ≡ cardIn ws
-unfolding heldIn
-held-even ws h = rw h
-
 laid-or-kept : (number : ℕ) (done before : List ℕ) → cond (eqb number 0) done before ≡ afterwards number done before
 laid-or-kept zero done before = refl
 laid-or-kept (suc number) done before = rw (ne-eqb (suc number) 0 (λ e. omega arith))

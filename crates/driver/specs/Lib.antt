@@ -1,3 +1,2 @@
 -- What a reader must believe of the driver's entrance.
 pub mod Driven
-pub mod Held

@@ -1,34 +1,15 @@
 // The calls on a card: document 01, "A request, step by step". A kind above 3 is no card's and gives 13, which comes
 // first in every order but start's: a card that is bad takes its place, and the card's own call refuses that.
-ghost use mathlib.Core.Path.{_≡_};
 ghost use Rattle.path.specs.Sizes.{sizesOf};
 ghost use Rattle.card.specs.Calls.{startTable, started, minTable, foundMin, withdrawTable, withdrawn};
 ghost use Rattle.image.specs.Reading.{cardIn};
 ghost use Rattle.refusal.specs.Refusal.{firstGiven};
 ghost use Rattle.driver.specs.Driven.{onCard, BeginsAt, FinishesAt};
-ghost use Rattle.driver.specs.Held.{heldIn};
 ghost use Rattle.told.specs.Told.{Called};
 use card::Card;
-use path::Sizes;
 use record::Leaf;
 use record::Stamp;
 use request::Waiting;
-
-// The card of the lent words; where they stand for none, one of height 0, which every call finds bad.
-fn held(words: &[u64; 272]) -> Card
-    ensures { λ k. ⌜ k ≡ heldIn (now (words .entry)) ⌝ }
-{
-    if image::is_odd(words) {
-        let none = Sizes {
-            h: 0,
-            z: 0,
-            r: 0,
-            t: 0,
-        };
-        return Card::fresh(none);
-    }
-    image::read(words)
-}
 
 #[no_mangle]
 pub extern "C" fn nwidarap_start(
@@ -58,7 +39,7 @@ pub extern "C" fn nwidarap_insert(
 ) -> u64
     ensures { λ n. ⌜ BeginsAt (Waiting.Insert key value (record { 0 = label }) (record { 0 = first }) (record { 0 = second })) (now (card .entry)) (now (answer .entry)) (now (list .entry)) n (now (card .exit)) (now (answer .exit)) (now (list .exit)) ⌝ }
 {
-    let taken = held(card);
+    let taken = held::card_of(card);
     let done = taken.begin_insert(key, value, Leaf(label), Leaf(first), Leaf(second), list);
     told::settle(done, card, answer)
 }
@@ -71,7 +52,7 @@ pub extern "C" fn nwidarap_extract(
 ) -> u64
     ensures { λ n. ⌜ BeginsAt Waiting.Extract (now (card .entry)) (now (answer .entry)) (now (list .entry)) n (now (card .exit)) (now (answer .exit)) (now (list .exit)) ⌝ }
 {
-    let taken = held(card);
+    let taken = held::card_of(card);
     let done = taken.begin_extract(list);
     told::settle(done, card, answer)
 }
@@ -86,7 +67,7 @@ pub extern "C" fn nwidarap_delete(
 ) -> u64
     ensures { λ n. ⌜ BeginsAt (Waiting.Delete (record { 0 = label }) (record { 0 = stamp })) (now (card .entry)) (now (answer .entry)) (now (list .entry)) n (now (card .exit)) (now (answer .exit)) (now (list .exit)) ⌝ }
 {
-    let taken = held(card);
+    let taken = held::card_of(card);
     let done = taken.begin_delete(Leaf(label), Stamp(stamp), list);
     told::settle(done, card, answer)
 }
@@ -95,7 +76,7 @@ pub extern "C" fn nwidarap_delete(
 pub extern "C" fn nwidarap_find_min(card: &mut [u64; 272], answer: &mut [u64; 6]) -> u64
     ensures { λ n. ⌜ Called (onCard (now (card .entry)) minTable) (foundMin (cardIn (now (card .entry)))) (now (card .entry)) (now (answer .entry)) n (now (card .exit)) (now (answer .exit)) ⌝ }
 {
-    let taken = held(card);
+    let taken = held::card_of(card);
     let done = taken.find_min();
     told::settle(done, card, answer)
 }
@@ -104,7 +85,7 @@ pub extern "C" fn nwidarap_find_min(card: &mut [u64; 272], answer: &mut [u64; 6]
 pub extern "C" fn nwidarap_withdraw(card: &mut [u64; 272], answer: &mut [u64; 6]) -> u64
     ensures { λ n. ⌜ Called (onCard (now (card .entry)) withdrawTable) (withdrawn (cardIn (now (card .entry)))) (now (card .entry)) (now (answer .entry)) n (now (card .exit)) (now (answer .exit)) ⌝ }
 {
-    let taken = held(card);
+    let taken = held::card_of(card);
     let done = taken.withdraw();
     told::settle(done, card, answer)
 }
@@ -117,7 +98,7 @@ pub extern "C" fn nwidarap_finish(
 ) -> u64
     ensures { λ n. ⌜ FinishesAt (now (card .entry)) (now (answer .entry)) (now (words .entry)) n (now (card .exit)) (now (answer .exit)) (now (words .exit)) ⌝ }
 {
-    let taken = held(card);
+    let taken = held::card_of(card);
     let done = taken.finish(words);
     told::settle(done, card, answer)
 }

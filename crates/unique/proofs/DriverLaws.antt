@@ -31,6 +31,8 @@ use Rattle.values.proofs.number_of.Kinds as number-of-kinds
 use Rattle.values.proofs.number_of.Reads as number-of
 use Rattle.values.proofs.values_of.Kinds as values-of-kinds
 use Rattle.values.proofs.values_of.Reads as values-of
+use Rattle.held.proofs.card_of.Kinds as card-of-kinds
+use Rattle.held.proofs.card_of.Reads as card-of
 use Rattle.kinds.proofs.waiting_of.Kinds as waiting-of-kinds
 use Rattle.kinds.proofs.waiting_of.Reads as waiting-of
 use Rattle.kinds.proofs.request_words.Kinds as request-words-kinds
@@ -120,6 +122,11 @@ one-waiting-of =
 pub one-request-words : Determines 0 request-words-kinds.ps request-words-kinds.r request-words.Asked request-words.Learnt
 one-request-words =
     one-answer 0 request-words-kinds.ps request-words-kinds.r request-words.Asked request-words.Learnt _ _
+    (λ κs a ok x xs f p. (p, refl))
+
+pub one-card-of : Determines 1 card-of-kinds.ps card-of-kinds.r card-of.Asked card-of.Learnt
+one-card-of =
+    one-answer 1 card-of-kinds.ps card-of-kinds.r card-of.Asked card-of.Learnt _ _
     (λ κs a ok x xs f p. (p, refl))
 
 pub one-is-odd : Determines 1 is-odd-kinds.ps is-odd-kinds.r is-odd.Asked is-odd.Learnt

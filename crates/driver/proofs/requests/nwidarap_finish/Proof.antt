@@ -4,8 +4,8 @@ use Rattle.driver.proofs.DrivenLaws.{held-finish}
 use Rattle.driver.proofs.requests.nwidarap_finish.Statement.{statement}
 use Rattle.driver.proofs.requests.nwidarap_finish.Tie as tie
 
-held-requires : tie.Need-held-requires
-held-requires c κs = search needs
+card-of-requires : tie.Need-card-of-requires
+card-of-requires c κs = search needs
 
 finish-requires : tie.Need-finish-requires
 finish-requires c κs = search needs
@@ -19,8 +19,8 @@ same-length c = search needs
 returns : tie.Need-returns
 returns c =
     let a = c .before .before .before .before .before .before .before .before .before .before .args in
-    held-finish (a .card .now) (a .answer .now) (a .words .now) _ _ _ _ _ _ (c .before .before .before .before .before .before .before .held .ensures) (c .before .before .before .before .before .finish .ensures) (c .settle .ensures)
+    held-finish (a .card .now) (a .answer .now) (a .words .now) _ _ _ _ _ _ (c .before .before .before .before .before .before .before .card-of .ensures) (c .before .before .before .before .before .finish .ensures) (c .settle .ensures)
 
 pub nwidarap-finish-spec : {M : Type 1} → statement M
 nwidarap-finish-spec =
-    tie.close (tie.spec held-requires finish-requires settle-requires same-length returns)
+    tie.close (tie.spec card-of-requires finish-requires settle-requires same-length returns)

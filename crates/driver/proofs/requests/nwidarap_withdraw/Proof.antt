@@ -1,12 +1,13 @@
 -- `nwidarap_withdraw` meets its contract: as the card's own call on the card that is held. Assumes nothing.
 use borrow.Author.Needs.{needs}
 use Rattle.card.specs.Calls.{withdrawTable, withdrawn}
-use Rattle.driver.proofs.DrivenLaws.{held-called, none-withdraws}
+use Rattle.held.proofs.HeldLaws.{none-withdraws}
+use Rattle.driver.proofs.DrivenLaws.{held-called}
 use Rattle.driver.proofs.requests.nwidarap_withdraw.Statement.{statement}
 use Rattle.driver.proofs.requests.nwidarap_withdraw.Tie as tie
 
-held-requires : tie.Need-held-requires
-held-requires c κs = search needs
+card-of-requires : tie.Need-card-of-requires
+card-of-requires c κs = search needs
 
 withdraw-requires : tie.Need-withdraw-requires
 withdraw-requires c κs = search needs
@@ -17,8 +18,8 @@ settle-requires c κs = search needs
 returns : tie.Need-returns
 returns c =
     let a = c .before .before .before .before .before .before .args in
-    held-called (a .card .now) withdrawTable none-withdraws withdrawn (a .answer .now) _ _ _ _ _ (c .before .before .before .before .held .ensures) (c .before .before .before .withdraw .ensures) (c .settle .ensures)
+    held-called (a .card .now) withdrawTable none-withdraws withdrawn (a .answer .now) _ _ _ _ _ (c .before .before .before .before .card-of .ensures) (c .before .before .before .withdraw .ensures) (c .settle .ensures)
 
 pub nwidarap-withdraw-spec : {M : Type 1} → statement M
 nwidarap-withdraw-spec =
-    tie.close (tie.spec held-requires withdraw-requires settle-requires returns)
+    tie.close (tie.spec card-of-requires withdraw-requires settle-requires returns)

@@ -1,9 +1,9 @@
--- `held` meets its contract: by the kind. Assumes nothing.
+-- `card_of` meets its contract: by the kind. Assumes nothing.
 use borrow.Author.Needs.{needs}
 use mathlib.Core.Path.{sym, _∙_}
-use Rattle.driver.proofs.DrivenLaws.{held-odd, held-even}
-use Rattle.driver.proofs.requests.held.Statement.{statement}
-use Rattle.driver.proofs.requests.held.Tie as tie
+use Rattle.held.proofs.HeldLaws.{held-odd, held-even}
+use Rattle.held.proofs.card_of.Statement.{statement}
+use Rattle.held.proofs.card_of.Tie as tie
 
 is-odd-requires : tie.Need-is-odd-requires
 is-odd-requires c κs = search needs
@@ -22,5 +22,5 @@ returns-2 : tie.Need-returns-2
 returns-2 c =
     c .read .ensures ∙ sym (held-even (c .before .before .before .args .words .now) (sym (c .before .before .is-odd .ensures) ∙ c .before .if1 .left))
 
-pub held-spec : {M : Type 1} → statement M
-held-spec = tie.close (tie.spec is-odd-requires fresh-requires returns read-requires returns-2)
+pub card-of-spec : {M : Type 1} → statement M
+card-of-spec = tie.close (tie.spec is-odd-requires fresh-requires returns read-requires returns-2)
