@@ -1,12 +1,12 @@
--- `read` is safe and ends: the bytes of all words fit the space. Assumes nothing.
+-- `read_by` is safe and ends: the bytes of all words fit the space. Assumes nothing.
 use native.Mathlib.Omega.{arith}
 use borrow.Author.Needs.{needs}
 use lib.ListN.{length}
 use mathlib.Core.Path.{_≡_, sym}
 use lib.Seq.{length-take-le}
 use Prim.Native.Nat.{_≤_, _-_, _*_}
-use Rattle.probe.proofs.words.read.Statement.{statement}
-use Rattle.probe.proofs.words.read.Tie as tie
+use Rattle.probe.proofs.words.read_by.Statement.{statement}
+use Rattle.probe.proofs.words.read_by.Tie as tie
 
 abbrev Inv-loop : tie.InvT-loop
 Inv-loop to₀ space end got i₀ i-end to i = (i ≤ length to₀) × ((length to ≡ length to₀) × (i-end ≡ length to₀))
@@ -66,8 +66,8 @@ same-length-3 c = search needs
 returns-2 : tie.Need-returns-2 Inv-loop μ-loop
 returns-2 c = search needs
 
-pub read-spec : {M : Type 1} → statement M
-read-spec =
+pub read-by-spec : {M : Type 1} → statement M
+read-by-spec =
     tie.close
     (tie.spec
     Inv-loop

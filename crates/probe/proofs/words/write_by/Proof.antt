@@ -1,12 +1,12 @@
--- `write` is safe and ends: the bytes of all words fit the space. Assumes nothing.
+-- `write_by` is safe and ends: the bytes of all words fit the space. Assumes nothing.
 use native.Mathlib.Omega.{arith}
 use borrow.Author.Needs.{needs}
 use lib.ListN.{length}
 use mathlib.Core.Path.{_≡_, sym}
 use lib.Seq.{length-take-le}
 use Prim.Native.Nat.{_≤_, _-_, _*_}
-use Rattle.probe.proofs.words.write.Statement.{statement}
-use Rattle.probe.proofs.words.write.Tie as tie
+use Rattle.probe.proofs.words.write_by.Statement.{statement}
+use Rattle.probe.proofs.words.write_by.Tie as tie
 
 abbrev Inv-loop : tie.InvT-loop
 Inv-loop from space₀ i₀ i-end space i = (i ≤ length from) × ((length space ≡ length space₀) × (i-end ≡ length from))
@@ -57,8 +57,8 @@ same-length c = search needs
 returns : tie.Need-returns Inv-loop μ-loop
 returns c = search needs
 
-pub write-spec : {M : Type 1} → statement M
-write-spec =
+pub write-by-spec : {M : Type 1} → statement M
+write-by-spec =
     tie.close
     (tie.spec
     Inv-loop

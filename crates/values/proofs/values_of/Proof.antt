@@ -3,8 +3,8 @@ use mathlib.Core.Bool.{Bool, true, false, cond}
 use mathlib.Core.Path.{_≡_, refl}
 use mir.Val.{boolByte}
 use borrow.Author.Needs.{needs}
-use Rattle.told.proofs.values_of.Statement.{statement}
-use Rattle.told.proofs.values_of.Tie as tie
+use Rattle.values.proofs.values_of.Statement.{statement}
+use Rattle.values.proofs.values_of.Tie as tie
 
 -- a Bool as a word is 1 or 0
 found-byte : (b : Bool) → boolByte b ≡ cond b 1 0

@@ -1,8 +1,8 @@
 -- `request_words` meets its contract: kind by kind. Assumes nothing.
 use borrow.Author.Needs.{needs}
-use Rattle.image.specs.Image.{requestWords}
-use Rattle.image.proofs.request_words.Statement.{statement}
-use Rattle.image.proofs.request_words.Tie as tie
+use Rattle.kinds.specs.Kinds.{requestWords}
+use Rattle.kinds.proofs.request_words.Statement.{statement}
+use Rattle.kinds.proofs.request_words.Tie as tie
 
 enum-told : tie.Need-enum-told
 enum-told c = search needs

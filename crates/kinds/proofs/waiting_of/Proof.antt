@@ -1,8 +1,8 @@
 -- `waiting_of` meets its contract: kind by kind. Assumes nothing.
 use borrow.Author.Tests.{eq-eqb, ne-eqb}
-use Rattle.image.specs.Reading.{waitingOf}
-use Rattle.image.proofs.waiting_of.Statement.{statement}
-use Rattle.image.proofs.waiting_of.Tie as tie
+use Rattle.kinds.specs.Kinds.{waitingOf}
+use Rattle.kinds.proofs.waiting_of.Statement.{statement}
+use Rattle.kinds.proofs.waiting_of.Tie as tie
 
 returns : tie.Need-returns
 unfolding waitingOf
