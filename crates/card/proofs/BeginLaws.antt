@@ -1,10 +1,10 @@
 -- What a begin that is not refused tells: a good card, no request that waits, a request within its rules, room for its
 -- list. Assumes nothing.
 use Prim.Native.Nat.{ℕ, _+_, _/_, _≤_, _<_}
-use mathlib.Core.Bool.{Bool, true, false, cond, _||_}
+use mathlib.Core.Bool.{true, false, cond}
 use mathlib.Core.List.{List, []}
 use mathlib.Core.Logic.{inl, inr}
-use mathlib.Mathlib.Data.Bool.Basic.{dichotomy}
+use mathlib.Mathlib.Data.Bool.Basic.{dichotomy, or-eq-false-eq-eq-false-and-eq-false as neither}
 use mathlib.Core.Path.{_≡_, refl, sym, ap, subst, _∙_}
 use native.Mathlib.Omega.{arith}
 use lib.Dec.{ltb, eqb}
@@ -16,7 +16,7 @@ use Rattle.record.proofs.StandingLaws.{proper-true}
 use Rattle.path.specs.declared.sizes.Sizes.{Sizes}
 use Rattle.record.specs.Standing.{dummyKey, known, isDummy, isProper, mayStand}
 use Rattle.lists.specs.declared.Listed.{Listed as Counts}
-use Rattle.lists.specs.BucketList.{numbers, counts, pairList, pathList, Names}
+use Rattle.lists.specs.BucketList.{numbers, counts, Names}
 use Rattle.path.proofs.SizesLaws.{in-range}
 use Rattle.lists.proofs.ListLaws.{length-numbers, pair-counts, path-counts}
 use Rattle.refusal.specs.Refusal.{firstGiven}
@@ -34,7 +34,6 @@ use Rattle.request.specs.Tables.{countsFor}
 use Rattle.card.specs.Calls.{listFor, listOf, leavesWithin, Listable, beginTable, listed, begun, Begins}
 use Rattle.card.proofs.AnswerLaws.{is-refused, is-done}
 use Rattle.card.proofs.GoodLaws.{Good, good}
-use Rattle.judge.proofs.FitLaws.{neither}
 
 -- every row of a request's table has a number
 pub request-numbered : (k : Card) (w : Waiting) → Numbered (requestTable k w)
@@ -124,9 +123,9 @@ insertable k key value label first second e =
     let c = none-given 6 _ _ (omega arith) (b .1) in
     let d = none-given 9 _ _ (omega arith) (c .1) in
     let f = none-given 10 _ _ (omega arith) (d .1) in
-    let l = neither (badLabel (leavesIn k) label) _ (c .0) in
-    let m = neither _ _ (l .1) in
-    let n = neither _ _ (m .1) in
+    let l = neither (badLabel (leavesIn k) label) _ .0 (c .0) in
+    let m = neither _ _ .0 (l .1) in
+    let n = neither _ _ .0 (m .1) in
     record {
       time = eqb-false _ _ (a .0);
       key = eqb-false _ _ (b .0);
@@ -171,7 +170,7 @@ least-proper k g h = elim (dichotomy (isDummy (k .least))) [
       not-false _ o
   | inr t ↦
       let o = rw t at (g .odd) in
-      absurd (h (omega (arith, ltb-false 0 (k .c) (neither _ _ o .0))))
+      absurd (h (omega (arith, ltb-false 0 (k .c) (neither _ _ .0 o .0))))
 ]
 
 -- a list that may be laid

@@ -3,6 +3,7 @@ use Prim.Native.Nat.{ℕ, _≤_}
 use mathlib.Core.Bool.{Bool, false}
 use mathlib.Core.List.{List, _++_}
 use mathlib.Core.Path.{_≡_, sym, ap, _∙_}
+use mathlib.Mathlib.Data.Bool.Basic.{or-eq-false-eq-eq-false-and-eq-false as neither}
 use native.Mathlib.Omega.{arith}
 use lib.ListN.{length, take}
 use borrow.Author.Tests.{ne-eqb}
@@ -15,7 +16,7 @@ use Rattle.gather.proofs.RootLaws.{root-laid}
 use Rattle.refusal.specs.Refusal.{Refusal, firstGiven}
 use Rattle.refusal.proofs.RefusalLaws.{none-given, Numbered, none, next, first-append}
 use Rattle.judge.specs.BadParts.{badParts}
-use Rattle.judge.proofs.FitLaws.{fit, neither}
+use Rattle.judge.proofs.FitLaws.{fit}
 use Rattle.request.specs.declared.Waiting.{Waiting}
 use Rattle.checks.specs.Checks.{badWith, busyRows, idleRows}
 
@@ -44,4 +45,4 @@ module _ (s : Sizes) (t c : ℕ) (root : List Record) (least : Record) where
   sizes-fit e = let i = in-range s (fit s t c root least e .sizes) in (i .tree .height .1, i .roots .1)
 
   pub busy-fit : (w : Waiting) (n : ℕ) → n ≡ firstGiven (busyRows (badWith s t c root least w) w) → n ≡ 0 → (s .h ≤ 16) × (s .r ≤ 64)
-  busy-fit w n e z = sizes-fit (neither _ _ (none-given 13 _ _ (omega arith) (sym e ∙ z) .0) .0)
+  busy-fit w n e z = sizes-fit (neither _ _ .0 (none-given 13 _ _ (omega arith) (sym e ∙ z) .0) .0)

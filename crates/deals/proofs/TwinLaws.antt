@@ -1,9 +1,9 @@
 -- Two sequences of the same kinds, request by request: the first is taken apart along the second, and what each takes out of its
 -- plain queue is there. Assumes nothing.
 use Prim.Native.Nat.{ℕ}
-use mathlib.Core.Bool.{Bool, true, false, true≢false, _&&_}
+use mathlib.Core.Bool.{true, and-eq-true-iff as both}
 use mathlib.Core.List.{List, [], _∷_, map, head-eq-of-cons-eq, tail-eq-of-cons-eq}
-use mathlib.Core.Path.{_≡_, refl, sym, ap, subst}
+use mathlib.Core.Path.{_≡_, sym, ap, subst}
 use native.Mathlib.Omega.{arith}
 use lib.ListN.{length}
 use Rattle.record.specs.declared.Leaf.{Leaf}
@@ -71,21 +71,17 @@ pub data Twin (s : Sizes) : World → Queue → Queue → List Call → List Cal
       → Twin s (doneBy u asked places words .world) (next q (asks w)) (next p (unlabelled (asks x))) cs ds
       → Twin s u q p (begin asked places ∷ finish words ∷ cs) (begin asked′ places′ ∷ finish words′ ∷ ds)
 
-both-true : (a b : Bool) → (a && b) ≡ true → (a ≡ true) × (b ≡ true)
-both-true true b e = (refl, e)
-both-true false b e = absurd (true≢false (sym e))
-
 none-some : {A : Type 0} {x : Kind} {xs : List Kind} → [] ≡ x ∷ xs → A
 none-some {A} {x} {xs} e = absurd (omega (arith, ap length e))
 
 module _ (u : World) (c : Call) (cs : List Call) (k : clean u (c ∷ cs) ≡ true) where
   clean-here : well (step u c .answer) ≡ true
   unfolding clean
-  clean-here = both-true (well (step u c .answer)) (clean (step u c .world) cs) k .0
+  clean-here = both (well (step u c .answer)) (clean (step u c .world) cs) .0 k .0
 
   clean-later : clean (step u c .world) cs ≡ true
   unfolding clean
-  clean-later = both-true (well (step u c .answer)) (clean (step u c .world) cs) k .1
+  clean-later = both (well (step u c .answer)) (clean (step u c .world) cs) .0 k .1
 
 module _ (s : Sizes) where
   twin-look : {c : Call} {u : World} {q p : Queue} {cs ds : List Call} → Looks c → Idle u q → clean u (c ∷ cs) ≡ true

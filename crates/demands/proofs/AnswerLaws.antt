@@ -10,7 +10,6 @@ use Rattle.record.specs.declared.Stamp.{Stamp}
 use Rattle.record.specs.declared.Record.{Record}
 use Rattle.record.specs.Standing.{isDummy, isProper}
 use Rattle.record.specs.Order.{smallest}
-use Rattle.record.proofs.StandingLaws.{proper-not-dummy}
 use Rattle.record.proofs.ManyLaws.{every-each}
 use Rattle.path.specs.Sizes.{leavesOf}
 use Rattle.clearing.specs.Removal.{named, found}
@@ -29,6 +28,7 @@ use Rattle.card.proofs.BeginLaws.{extractable}
 use Rattle.good.specs.Live.{without, Ascending}
 use Rattle.good.proofs.PickLaws.{is-named}
 use Rattle.good.proofs.FewLaws.{least-live}
+use Rattle.good.proofs.LowLaws.{live-real}
 use Rattle.served.specs.Ready.{Ready}
 use Rattle.served.specs.LiveAfter.{liveAfter}
 use Rattle.served.proofs.CallLaws.{ready-least}
@@ -52,7 +52,7 @@ module _ (k : Card) (tree : List ℕ) (live : List Record) (r : Ready k tree liv
   known y i = every-each (isProper (leavesOf (k .sizes .h)) (stampOf (k .t))) (r .heap .good .proper) i
 
   real : (y : Record) → List·Memᴰ y live → isDummy y ≡ false
-  real y i = proper-not-dummy (leavesOf (k .sizes .h)) (stampOf (k .t)) y (known y i)
+  real = live-real (k .sizes) (stampOf (k .t)) _ live (r .heap .good)
 
   module _ (some-live : 1 ≤ k .c) where
     in-live : List·Memᴰ (k .least) live

@@ -1,7 +1,7 @@
 -- A round on a ready card and its tree gives the number that the request's own rules give, and no other: neither 11 nor 12, nor 2, 3 or 13.
 -- Assumes nothing.
 use Prim.Native.Nat.{ℕ, zero, suc, _+_, _*_, _≤_}
-use mathlib.Core.Bool.{Bool, true, false, cond, _&&_, and-eq-true-iff, true≢false}
+use mathlib.Core.Bool.{Bool, true, false, cond, _&&_, and-eq-true-iff}
 use mathlib.Core.List.{List, [], _∷_}
 use mathlib.Core.Path.{_≡_, refl, sym, subst, _∙_}
 use native.Mathlib.Omega.{arith}
@@ -10,12 +10,10 @@ use lib.Dec.{leb}
 use lib.ListN.{length}
 use borrow.Author.Tests.{leb-true, ne-eqb}
 use Rattle.record.specs.declared.Record.{Record}
-use Rattle.path.specs.declared.sizes.Sizes.{Sizes}
 use Rattle.lists.specs.declared.Listed.{Listed as Counts}
-use Rattle.path.specs.Sizes.{treeIn, inRange}
 use Rattle.path.specs.Layout.{bucketWords}
 use Rattle.lists.specs.BucketList.{BucketList, counts, laid, fetchedFor}
-use Rattle.path.proofs.SizesLaws.{in-range}
+use Rattle.path.proofs.SizesLaws.{in-range, tree-range}
 use Rattle.refusal.specs.Refusal.{Refusal, row, firstGiven}
 use Rattle.settle.specs.Left.{wordsLeft}
 use Rattle.copies.specs.Copy.{fetched, stored}
@@ -31,7 +29,7 @@ use Rattle.card.specs.Answers.{orRefused}
 use Rattle.card.specs.Finish.{leftBy, finishTable, cardLeft}
 use Rattle.card.proofs.CallLaws.{same-list}
 use Rattle.card.proofs.BeginLaws.{counts-for, counts-few, request-refused, room-enough}
-use Rattle.rounds.specs.Round.{orElse, listPlaces, wordPlaces, rackRefusal, finishRefusal, treeLeft, roundRefusal, roundDone, roundTree}
+use Rattle.rounds.specs.Round.{listPlaces, wordPlaces, rackRefusal, finishRefusal, treeLeft, roundRefusal, roundDone, roundTree}
 use Rattle.rounds.proofs.RoundLaws.{or-first, or-second}
 use Rattle.served.specs.Ready.{Ready}
 use Rattle.served.specs.LiveAfter.{liveAfter}
@@ -54,10 +52,6 @@ product-few n b m l k j = omega (arith, mul-le-mul-right b l)
 words-few : (h z : ℕ) (w : Waiting) → h ≤ 16 → z ≤ 5 → fetchedFor z (countsFor h w) ≤ 888
 words-few h z w l m =
     product-few (countsFor h w .whole) (bucketWords z) (countsFor h w .least) (counts-few h w l .0) (omega arith) (least-few h w l)
-
-pub tree-range : (s : Sizes) → inRange s ≡ true → treeIn (s .h) (s .z) ≡ true
-unfolding inRange
-tree-range s e = and-eq-true-iff (treeIn (s .h) (s .z)) _ .0 e .0
 
 -- ---- the request's own rules
 pick : (b : Bool) (n rest : ℕ) → ownNumber n ≡ true → ownNumber rest ≡ true → ownNumber (cond b n rest) ≡ true

@@ -1,15 +1,15 @@
 -- A desk that holds a queue: a round on its card, `min`, and the tree's words at the head of what is lent. Assumes nothing.
 use Prim.Native.Nat.{ℕ, zero, suc}
 use mathlib.Core.Bool.{true, false}
-use mathlib.Core.List.{List, _++_, map}
-use mathlib.Core.Path.{_≡_, refl, sym, ap, _∙_, subst}
+use mathlib.Core.List.{List, _++_}
+use mathlib.Core.Path.{_≡_, refl, sym, ap, _∙_}
 use native.Mathlib.Omega.{arith}
-use lib.ListN.{length, take, drop, length-append, take-append-drop}
+use lib.ListN.{length, length-append, take-append-drop}
 use lib.Seq.{take-at}
-use borrow.Author.Tests.{eq-eqb, ne-eqb}
-use Rattle.record.specs.declared.Record.{Record}
+use borrow.Author.Tests.{ne-eqb}
 use Rattle.path.specs.Sizes.{inRange}
 use Rattle.path.specs.Layout.{treeWords}
+use Rattle.path.proofs.SizesLaws.{tree-range}
 use Rattle.lists.specs.BucketList.{BucketList}
 use Rattle.refusal.specs.Refusal.{firstGiven}
 use Rattle.settle.specs.Left.{Left}
@@ -30,9 +30,9 @@ use Rattle.served.specs.LiveAfter.{liveAfter}
 use Rattle.served.proofs.CallLaws.{begin-ready}
 use Rattle.served.proofs.FinishedLaws.{WordKey, finished-card}
 use Rattle.rounds.specs.Round.{wordPlaces, roundRefusal, roundDone, roundTree}
-use Rattle.honest.proofs.RoundLaws.{tree-range, round-number, round-ready}
+use Rattle.honest.proofs.RoundLaws.{round-number, round-ready}
 use Rattle.demands.specs.Queue.{Queue, reply, next}
-use Rattle.demands.specs.Says.{eventOf, asks, says}
+use Rattle.demands.specs.Says.{asks, says}
 use Rattle.demands.proofs.AnswerLaws.{queueOf, finish-says, finish-numbered, next-events, next-taken}
 use Rattle.turns.specs.declared.Desk.{Desk}
 use Rattle.turns.specs.Step.{wordsOf, usedOf, told, kept, head, rest, played}
