@@ -20,6 +20,7 @@ use Rattle.way.specs.Least.{mendedAt}
 use Rattle.gather.specs.Shown.{slotsShown, wayShown}
 use Rattle.gather.proofs.ShownLaws.{way-length, slots-length}
 use Rattle.mend.specs.Mended.{pathWords}
+use Rattle.mend.proofs.PartLaws.{path-words-append}
 use Rattle.work.specs.Work.{slotsAfter, pathBuckets, rootAfter, leastAfter, seated, firstBuckets}
 use Rattle.work.specs.Work.{secondWay, secondBeside, secondBuckets, firstSiblings, secondSiblings, rooted}
 use Rattle.rack.specs.Copy.{fetched, stored}
@@ -31,7 +32,7 @@ use Rattle.tree.proofs.Removal.{slots-after-length, root-after-length}
 use Rattle.tree.proofs.HalvesLaws.{Halves, first-inside, first-off}
 use Rattle.tree.proofs.PairWork.{first-buckets, second-way, second-buckets, second-root, second-least}
 use Rattle.tree.proofs.PairFetch.{pair-wholes, pair-leasts, pair-whole-count, pair-way, pair-slots, first-beside, second-beside}
-use Rattle.tree.proofs.PairStore.{path-words-append, pair-stored, pair-stored-length}
+use Rattle.tree.proofs.PairStore.{pair-stored, pair-stored-length}
 use Rattle.tree.proofs.ShownLaws.{belowOf}
 
 pub seated-length : (r : ℕ) (new : Record) (w : List Record) → length (seated r new w) ≡ length w
