@@ -1,8 +1,9 @@
 -- The judgements on a request, a card and what was fetched, and a finish on the parts of a card, leave one outcome.
 -- Assumes nothing.
-use mathlib.Core.Path.{refl}
+use mathlib.Core.Path.{refl, _∙_}
 use Rattle.unique.specs.One.{Determines}
 use Rattle.unique.proofs.OneLaws.{one-answer}
+use Rattle.unique.proofs.ScratchLaws.{full-words}
 use Rattle.request.proofs.is_waiting.Kinds as is-waiting-kinds
 use Rattle.request.proofs.is_waiting.Reads as is-waiting
 use Rattle.request.proofs.why_request.Kinds as why-request-kinds
@@ -39,8 +40,14 @@ use Rattle.settle.proofs.path_words.Kinds as path-words-kinds
 use Rattle.settle.proofs.path_words.Reads as path-words
 use Rattle.settle.proofs.unsettled.Kinds as unsettled-kinds
 use Rattle.settle.proofs.unsettled.Reads as unsettled
-use Rattle.settle.proofs.comes_out_bad.Kinds as comes-out-bad-kinds
-use Rattle.settle.proofs.comes_out_bad.Reads as comes-out-bad
+use Rattle.settle.proofs.judged.Kinds as judged-kinds
+use Rattle.settle.proofs.judged.Reads as judged
+use Rattle.look.proofs.look_path.Kinds as look-path-kinds
+use Rattle.look.proofs.look_path.Reads as look-path
+use Rattle.look.proofs.look_pair.Kinds as look-pair-kinds
+use Rattle.look.proofs.look_pair.Reads as look-pair
+use Rattle.prepare.proofs.prepare_insertion.Kinds as prepare-insertion-kinds
+use Rattle.prepare.proofs.prepare_insertion.Reads as prepare-insertion
 use Rattle.removal.proofs.settle_removal.Kinds as settle-removal-kinds
 use Rattle.removal.proofs.settle_removal.Reads as settle-removal
 use Rattle.insertion.proofs.settle_insertion.Kinds as settle-insertion-kinds
@@ -138,10 +145,25 @@ one-unsettled =
     one-answer 0 unsettled-kinds.ps unsettled-kinds.r unsettled.Asked unsettled.Learnt _ _
     (λ κs a ok x xs f p. (p, refl))
 
-pub one-comes-out-bad : Determines 0 comes-out-bad-kinds.ps comes-out-bad-kinds.r comes-out-bad.Asked comes-out-bad.Learnt
-one-comes-out-bad =
-    one-answer 0 comes-out-bad-kinds.ps comes-out-bad-kinds.r comes-out-bad.Asked comes-out-bad.Learnt _ _
+pub one-judged : Determines 0 judged-kinds.ps judged-kinds.r judged.Asked judged.Learnt
+one-judged =
+    one-answer 0 judged-kinds.ps judged-kinds.r judged.Asked judged.Learnt _ _
     (λ κs a ok x xs f p. (p, refl))
+
+pub one-look-path : Determines 3 look-path-kinds.ps look-path-kinds.r look-path.Asked look-path.Learnt
+one-look-path =
+    one-answer 3 look-path-kinds.ps look-path-kinds.r look-path.Asked look-path.Learnt _ _
+    (λ κs a ok x xs f p. (λ i. record { moved = p .shown .counted i; damaged = p .verdict i }, λ i. (tt, (full-words _ _ _ (f .1 .0 ∙ ok .slots) (p .shown .way) i, (full-words _ _ _ (f .1 .1 .0 ∙ ok .siblings) (p .shown .siblings) i, (tt, (tt, (tt, (tt, (tt, tt))))))))))
+
+pub one-look-pair : Determines 3 look-pair-kinds.ps look-pair-kinds.r look-pair.Asked look-pair.Learnt
+one-look-pair =
+    one-answer 3 look-pair-kinds.ps look-pair-kinds.r look-pair.Asked look-pair.Learnt _ _
+    (λ κs a ok x xs f p. (λ i. record { moved = p .counted i; damaged = p .verdict i }, λ i. (tt, (full-words _ _ _ (f .1 .0 ∙ ok .slots) (p .way) i, (full-words _ _ _ (f .1 .1 .0 ∙ ok .siblings) (p .siblings) i, (tt, (tt, (tt, (tt, (tt, (tt, tt)))))))))))
+
+pub one-prepare-insertion : Determines 3 prepare-insertion-kinds.ps prepare-insertion-kinds.r prepare-insertion.Asked prepare-insertion.Learnt
+one-prepare-insertion =
+    one-answer 3 prepare-insertion-kinds.ps prepare-insertion-kinds.r prepare-insertion.Asked prepare-insertion.Learnt _ _
+    (λ κs a ok x xs f p. (p .whole, λ i. (tt, (p .lower i, (p .upper i, (tt, (tt, (tt, (tt, (tt, (tt, (tt, (tt, tt)))))))))))))
 
 pub one-settle-removal : Determines 1 settle-removal-kinds.ps settle-removal-kinds.r settle-removal.Asked settle-removal.Learnt
 one-settle-removal =

@@ -46,7 +46,7 @@ use Rattle.shown.proofs.show_path.Reads as show-path
 use Rattle.shown.proofs.show_pair.Kinds as show-pair-kinds
 use Rattle.shown.proofs.show_pair.Reads as show-pair
 
-full-words : (ws : List ℕ) (n : ℕ) (rs : List Record) → length ws ≡ 4 * n → records ws ≡ rs → ws ≡ wordsOf rs
+pub full-words : (ws : List ℕ) (n : ℕ) (rs : List Record) → length ws ≡ 4 * n → records ws ≡ rs → ws ≡ wordsOf rs
 full-words ws n rs long e = sym (words-records ws n long) ∙ ap wordsOf e
 
 pub one-evict : Determines 1 evict-kinds.ps evict-kinds.r evict.Asked evict.Learnt
