@@ -1,17 +1,14 @@
 use borrow.Author.Needs.{needs}
 use Prim.Native.Nat.{_≤_, _-_}
 use lib.ListN.{length}
-use Rattle.rack_examples.proofs.line.words.Statement.{statement}
-use Rattle.rack_examples.proofs.line.words.Tie as tie
+use Rattle.rack_examples.proofs.line.rest.Statement.{statement}
+use Rattle.rack_examples.proofs.line.rest.Tie as tie
 
 abbrev Inv-loop : tie.InvT-loop
-Inv-loop text list i₀ i = i ≤ length list
+Inv-loop list i₀ i = i ≤ length list
 
 abbrev μ-loop : tie.MeasureT-loop
-μ-loop text list i₀ i = length list - i
-
-name-requires : tie.Need-name-requires Inv-loop μ-loop
-name-requires c κs = search needs
+μ-loop list i₀ i = length list - i
 
 loop-holds : tie.Need-loop-holds Inv-loop μ-loop
 loop-holds c = search needs
@@ -40,13 +37,12 @@ end-requires c κs = search needs
 returns : tie.Need-returns Inv-loop μ-loop
 returns c = search needs
 
-pub words-spec : {M : Type 1} → statement M
-words-spec =
+pub rest-spec : {M : Type 1} → statement M
+rest-spec =
     tie.close
     (tie.spec
     Inv-loop
     μ-loop
-    name-requires
     loop-holds
     mul-number
     shared-slice-read-number
