@@ -31,12 +31,12 @@ use Rattle.rack.specs.Answers.{anyOutside}
 use Rattle.copies.specs.Copy.{stored}
 use Rattle.decimal.specs.Digits.{digits, fewest, valueFrom}
 use Rattle.decimal.specs.Field.{allDigits, isNumber}
-use Rattle.lines.specs.Behind.{behind}
-use Rattle.lines.specs.Pieces.{pieces, before, same as sameBytes}
-use Rattle.lines.specs.Says.{allNumbers, saidOf, saidBy, lineSays}
+use Rattle.fields.specs.Behind.{behind, allNumbers}
+use Rattle.fields.specs.Pieces.{pieces, before, same as sameBytes}
+use Rattle.lines.specs.Says.{saidOf, saidBy, lineSays}
 use Rattle.frames.specs.Answer.{answerLine}
 use Rattle.rounds.specs.Round.{rackRefusal, finishRefusal, treeLeft, roundRefusal, roundDone, roundTree}
-use Rattle.turns.specs.Step.{wordsOf as turnWords, sizedTo, askedFor, minOf, stepOf}
+use Rattle.steps.specs.Step.{wordsOf as turnWords, sizedTo, askedFor, minOf, stepOf}
 use Rattle.paper.specs.Run.{opened, given, stated}
 use Rattle.paper.specs.Table.{table}
 

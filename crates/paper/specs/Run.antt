@@ -9,9 +9,9 @@ use Rattle.copies.specs.Copy.{bucketPart}
 use Rattle.request.specs.declared.Waiting.{Waiting}
 use Rattle.card.specs.Calls.{listOf}
 use Rattle.lines.specs.Says.{lineSays}
-use Rattle.turns.specs.Step.{Left, nothing, stepOf}
+use Rattle.steps.specs.Step.{Left, nothing, stepOf}
 use Rattle.replies.specs.Reply.{bytesOf}
-use Rattle.sitting.specs.Output.{shut}
+use Rattle.output.specs.Output.{shut}
 
 -- a line in bytes, without its end, and what it prints; then something that is looked at after it, and what that shows
 pub record Row : Type 0 where

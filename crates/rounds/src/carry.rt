@@ -19,8 +19,9 @@ fn carry(card: Card, begun: Card, list: &[u64], n: Listed, tree: &mut [u64]) -> 
     let h = begun.sizes.h;
     let z = begun.sizes.z;
     let fetched = rack::fetch(h, z, tree, list, n.whole, n.least, &mut words);
-    if !fetched.is_done() {
-        return answer::refuse(card, fetched.number());
+    let refused = fetched.number();
+    if refused != 0 {
+        return answer::refuse(card, refused);
     }
     let done = begun.finish(&mut words);
     let given = done.answer;

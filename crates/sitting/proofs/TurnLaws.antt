@@ -14,14 +14,15 @@ use Rattle.decimal.proofs.PrintLaws.{laid-within}
 use Rattle.frames.specs.declared.Taken.{Taken}
 use Rattle.frames.specs.Framing.{begunBy, Takes}
 use Rattle.frames.proofs.TakeLaws.{take-min, takes-some}
-use Rattle.turns.specs.declared.Desk.{Desk}
+use Rattle.steps.specs.declared.Desk.{Desk}
 use Rattle.replies.specs.declared.Printed.{Printed}
 use Rattle.replies.specs.Reply.{Prints}
+use Rattle.output.specs.Output.{State}
+use Rattle.output.specs.Room.{replyMost}
 use Rattle.sitting.specs.declared.Sitting.{Sitting}
 use Rattle.sitting.specs.declared.Fed.{Fed}
-use Rattle.sitting.specs.Output.{State}
-use Rattle.sitting.specs.Sitting.{replyMost, stateOf, openLine, Feeds}
-use Rattle.sitting.proofs.FeedLaws.{Feeding, feeding-room, feeding-open, feeding-ended, none-more, held-is, line-is}
+use Rattle.sitting.specs.Sitting.{stateOf, openLine, Feeds}
+use Rattle.output.proofs.FeedLaws.{Feeding, feeding-room, feeding-open, feeding-ended, none-more, held-is, line-is}
 
 module _
     (s₀ : State) (begun₀ chunk out₀ : List ℕ) (s : State) (line : List ℕ) (held taken written : ℕ) (out : List ℕ)

@@ -34,8 +34,8 @@ use Rattle.honest.proofs.RoundLaws.{round-number, round-ready}
 use Rattle.demands.specs.Queue.{Queue, reply, next}
 use Rattle.demands.specs.Says.{asks, says}
 use Rattle.demands.proofs.AnswerLaws.{queueOf, finish-says, finish-numbered, next-events, next-taken}
-use Rattle.turns.specs.declared.Desk.{Desk}
-use Rattle.turns.specs.Step.{wordsOf, usedOf, told, kept, head, rest, played}
+use Rattle.steps.specs.declared.Desk.{Desk}
+use Rattle.steps.specs.Step.{wordsOf, usedOf, told, kept, head, rest, played}
 use Rattle.steady.specs.Steady.{Holds}
 
 -- the words of a tree that stands at the head of what is lent

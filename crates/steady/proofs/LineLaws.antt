@@ -32,9 +32,9 @@ use Rattle.demands.specs.Says.{eventOf, asks}
 use Rattle.demands.proofs.AnswerLaws.{least-told}
 use Rattle.lines.specs.declared.Line.{Line}
 use Rattle.lines.specs.declared.Line.the-variants.{Unreadable, Size, Insert, Min, Extract, Delete}
-use Rattle.turns.specs.declared.Desk.{Desk}
-use Rattle.turns.specs.declared.Turn.{Turn}
-use Rattle.turns.specs.Step.{Left, nothing, unread as question, told, kept, fresh, sizedTo, tooLarge, wordsOf, head, played, askedFor, leastOf, minOf, stepOf}
+use Rattle.steps.specs.declared.Desk.{Desk}
+use Rattle.steps.specs.declared.Turn.{Turn}
+use Rattle.steps.specs.Step.{Left, nothing, unread as question, told, kept, fresh, sizedTo, tooLarge, wordsOf, head, played, askedFor, leastOf, minOf, stepOf}
 use Rattle.steady.specs.Steady.{wants, Holds, Keeps, Unheard, unreadable, early, large, Printed, Turns, unread, refused as refuses, started, answered}
 use Rattle.steady.proofs.HeldLaws.{own-head, own-desk, round-refused, round-says, round-numbered, round-holds}
 

@@ -13,10 +13,12 @@ use Rattle.decimal.proofs.DecimalLaws.{number-plain}
 use Rattle.demands.specs.Queue.{Queue}
 use Rattle.lines.specs.declared.Line.{Line}
 use Rattle.lines.specs.declared.Line.the-variants.{Unreadable, Size, Insert, Min, Extract, Delete}
-use Rattle.lines.specs.Pieces.{same, fieldsOf, linesOf}
-use Rattle.lines.specs.Says.{Kind, kinds, allNumbers, saidOf, saidBy, fieldsSay, lineMost, lineSays, at, sizeKind, insertKind, minKind, extractKind, deleteKind}
-use Rattle.turns.specs.declared.Desk.{Desk}
-use Rattle.turns.specs.Step.{stepOf}
+use Rattle.fields.specs.Pieces.{same, fieldsOf}
+use Rattle.lines.specs.Says.{linesOf}
+use Rattle.lines.specs.Says.{Kind, kinds, saidOf, saidBy, fieldsSay, lineMost, lineSays, at, sizeKind, insertKind, minKind, extractKind, deleteKind}
+use Rattle.fields.specs.Behind.{allNumbers}
+use Rattle.steps.specs.declared.Desk.{Desk}
+use Rattle.steps.specs.Step.{stepOf}
 use Rattle.steady.specs.Steady.{Keeps, Sits, ended, turned}
 use Rattle.steady.proofs.LineLaws.{WordLine, Played, one-line}
 

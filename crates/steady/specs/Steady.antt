@@ -18,9 +18,9 @@ use Rattle.demands.specs.Queue.{Queue, Request, insert, findMin, extractMin, de
 use Rattle.demands.specs.Says.{refOf, eventOf, says}
 use Rattle.lines.specs.declared.Line.{Line}
 use Rattle.lines.specs.declared.Line.the-variants.{Unreadable, Size, Insert, Min, Extract, Delete}
-use Rattle.turns.specs.declared.Desk.{Desk}
-use Rattle.turns.specs.declared.Reply.the-variants.{Said}
-use Rattle.turns.specs.Step.{Left, nothing, kept, head, tooLarge, stepOf}
+use Rattle.steps.specs.declared.Desk.{Desk}
+use Rattle.steps.specs.declared.Reply.the-variants.{Said}
+use Rattle.steps.specs.Step.{Left, nothing, kept, head, tooLarge, stepOf}
 
 -- what a line asks of the queue
 abbrev pub wants : Line → Request
