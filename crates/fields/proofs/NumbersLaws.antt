@@ -1,6 +1,6 @@
 -- The numbers of a line, gathered field by field. Assumes nothing.
 use Prim.Native.Nat.{ℕ, suc, _+_, _≤_, _<_}
-use mathlib.Core.Bool.{true, false, cond, _&&_, and-false}
+use mathlib.Core.Bool.{true, false, cond, _&&_, and-false, and-eq-true-iff as both}
 use mathlib.Core.List.{List, [], _∷_, _++_, map, append-assoc}
 use mathlib.Core.Path.{_≡_, refl, sym, ap, _∙_}
 use native.Mathlib.Omega.{arith}
@@ -12,7 +12,6 @@ use borrow.Author.Tests.{eq-eqb, ne-eqb, eqb-true}
 use Rattle.decimal.specs.Digits.{value}
 use Rattle.decimal.specs.Field.{isNumber, reads}
 use Rattle.decimal.specs.declared.Reading.the-variants.{Number, Unreadable}
-use Rattle.decimal.proofs.ValueLaws.{both}
 use Rattle.decimal.proofs.FieldLaws.{read-number, read-none}
 use Rattle.fields.specs.Behind.{allNumbers, written, Numbered}
 
@@ -95,12 +94,12 @@ filled [] [] l a = refl
 filled [] (p ∷ ps) l a = absurd (omega arith)
 filled (f ∷ fs) [] l a = absurd (omega arith)
 filled (f ∷ fs) (p ∷ ps) l a =
-    let (is, more) = both (isNumber f) (allNumbers fs) a in
+    let (is, more) = both (isNumber f) (allNumbers fs) .0 a in
     rw (is, filled fs ps (omega arith) more)
 
 pub all-written :
     (fields : List (List ℕ)) (places : List ℕ) → (eqb (length fields) (length places) && allNumbers fields) ≡ true
     → written fields places ≡ map value fields
 all-written fields places e =
-    let (l, a) = both (eqb (length fields) (length places)) (allNumbers fields) e in
+    let (l, a) = both (eqb (length fields) (length places)) (allNumbers fields) .0 e in
     filled fields places (eqb-true (length fields) (length places) l) a
