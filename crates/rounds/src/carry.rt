@@ -25,7 +25,7 @@ fn carry(card: Card, begun: Card, list: &[u64], n: Listed, tree: &mut [u64]) -> 
     }
     let done = begun.finish(&mut words);
     let given = done.answer;
-    let said = answer::number(given);
+    let said = values::number_of(given);
     if said != 0 {
         return answer::refuse(card, said);
     }
@@ -38,7 +38,7 @@ pub(crate) fn go_on(card: Card, begun: Done, list: &[u64], tree: &mut [u64]) -> 
     ensures { λ d. ⌜ Carries card (numberOf (begun .answer)) (begun .card) (now (list .entry)) (countsIn (begun .answer)) (listed (now (list .entry)) (countsIn (begun .answer) .whole) (countsIn (begun .answer) .least)) (now (tree .entry)) (now (tree .exit)) d ⌝ }
 {
     let given = begun.answer;
-    let number = answer::number(given);
+    let number = values::number_of(given);
     if number != 0 {
         return answer::refuse(card, number);
     }

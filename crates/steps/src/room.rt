@@ -2,9 +2,7 @@
 ghost use mathlib.Core.Path.{_≡_};
 ghost use Prim.Native.Nat.{min};
 ghost use Rattle.steps.specs.Step.{wordsOf, usedOf};
-use path::leaves;
 use path::tree_in_range;
-use record::RECORD_WORDS;
 
 // The words of a tree of these sizes; none for sizes out of range.
 pub fn tree_words(h: u64, z: u64) -> usize
@@ -13,7 +11,7 @@ pub fn tree_words(h: u64, z: u64) -> usize
     if !tree_in_range(h, z) {
         return 0;
     }
-    RECORD_WORDS * (z as usize + 1) * (2 * leaves(h) - 2) as usize
+    copies::tree_words(h, z)
 }
 
 // So many of the lent words.

@@ -30,8 +30,8 @@ slice-aggregate-finish c = search needs
 finish-requires : tie.Need-finish-requires
 finish-requires c κs = search needs
 
-number-requires-2 : tie.Need-number-requires-2
-number-requires-2 c κs = search needs
+number-of-requires : tie.Need-number-of-requires
+number-of-requires c κs = search needs
 
 refuse-requires-2 : tie.Need-refuse-requires-2
 refuse-requires-2 c κs = search needs
@@ -42,7 +42,7 @@ same-length-2 c = search needs
 returns-2 : tie.Need-returns-2
 returns-2 c =
     let s = c .before .before .before .before .before .before .before .before .before .before .before .before .before .before .args in
-    finish-refuses (s .card) (s .begun) (s .list .now) (s .n) (s .tree .now) _ _ (c .before .before .before .before .before .before .before .before .before .fetch .ensures) _ (c .before .before .before .before .before .before .before .number .ensures) (c .before .before .before .before .before .before .if1 .left) _ _ (c .before .before .before .before .finish .ensures) _ (c .before .before .number2 .ensures) (c .before .if2 .taken) _ (c .refuse2 .ensures)
+    finish-refuses (s .card) (s .begun) (s .list .now) (s .n) (s .tree .now) _ _ (c .before .before .before .before .before .before .before .before .before .fetch .ensures) _ (c .before .before .before .before .before .before .before .number .ensures) (c .before .before .before .before .before .before .if1 .left) _ _ (c .before .before .before .before .finish .ensures) _ (c .before .before .number-of .ensures) (c .before .if2 .taken) _ (c .refuse2 .ensures)
 
 slice-aggregate-store : tie.Need-slice-aggregate-store
 slice-aggregate-store c = search needs
@@ -56,7 +56,7 @@ same-length-3 c = search needs
 returns-3 : tie.Need-returns-3
 returns-3 c =
     let s = c .before .before .before .before .before .before .before .before .before .before .before .before .before .before .before .before .before .before .args in
-    all-done (s .card) (s .begun) (s .list .now) (s .n) (s .tree .now) _ _ (c .before .before .before .before .before .before .before .before .before .before .before .before .before .fetch .ensures) _ (c .before .before .before .before .before .before .before .before .before .before .before .number .ensures) (c .before .before .before .before .before .before .before .before .before .before .if1 .left) _ _ (c .before .before .before .before .before .before .before .before .finish .ensures) _ (c .before .before .before .before .before .before .number2 .ensures) (c .before .before .before .before .before .if2 .left) (search needs) _ _ (c .before .before .store .ensures)
+    all-done (s .card) (s .begun) (s .list .now) (s .n) (s .tree .now) _ _ (c .before .before .before .before .before .before .before .before .before .before .before .before .before .fetch .ensures) _ (c .before .before .before .before .before .before .before .before .before .before .before .number .ensures) (c .before .before .before .before .before .before .before .before .before .before .if1 .left) _ _ (c .before .before .before .before .before .before .before .before .finish .ensures) _ (c .before .before .before .before .before .before .number-of .ensures) (c .before .before .before .before .before .if2 .left) (search needs) _ _ (c .before .before .store .ensures)
 
 pub carry-spec : {M : Type 1} → statement M
 carry-spec =
@@ -70,7 +70,7 @@ carry-spec =
     returns
     slice-aggregate-finish
     finish-requires
-    number-requires-2
+    number-of-requires
     refuse-requires-2
     same-length-2
     returns-2
