@@ -3,6 +3,7 @@ use Prim.Native.Nat.{ℕ, suc, _+_, _*_, _-_, _≤_}
 use mathlib.Core.Bool.{Bool, true, false, _||_}
 use mathlib.Core.List.{List, _++_}
 use mathlib.Core.Path.{_≡_, sym, ap, _∙_}
+use mathlib.Mathlib.Data.Bool.Basic.{or-eq-false-eq-eq-false-and-eq-false as neither}
 use native.Mathlib.Nat.{zero-add}
 use native.Mathlib.Omega.{arith}
 use lib.ListN.{take, drop}
@@ -14,7 +15,6 @@ use Rattle.gather.specs.Shown.{siblingAt, slotsShown}
 use Rattle.mend.specs.Mended.{pathWords, besideAt}
 use Rattle.mend.proofs.PartLaws.{path-words-append}
 use Rattle.judge.specs.BadParts.{badParts}
-use Rattle.judge.proofs.FitLaws.{neither}
 use Rattle.pair.specs.PairWork.{firstSiblings, secondSiblings, PairWorked}
 use Rattle.work.specs.PathWork.{rootAfter}
 use Rattle.pair.proofs.BesideLaws.{pair-same}
@@ -85,7 +85,7 @@ module _ (s : Sizes) (t c : ℕ) (root : List Record) (least : Record) (ws : Lis
 module _ (s : Sizes) (t c : ℕ) (root : List Record) (least : Record) (ws : List ℕ) (first second : Leaf) (new : Record) where
   fetched-good : insertionDamaged s t c root least ws first second new ≡ false → pairBad s t root least ws first second ≡ false
   unfolding insertionDamaged pairBad
-  fetched-good g = neither _ _ g .0
+  fetched-good g = neither _ _ .0 g .0
 
   pub pair-prepares : (one₀ two₀ one two : List ℕ) (out : Settled) → PairPrepared s t c root least ws first second new one₀ two₀ one two out
       → Prepares root least c (insertionDamaged s t c root least ws first second new) (insertion s c root ws first second new) (2 * (s .h - 1)) (one ++ two) out
