@@ -1,7 +1,7 @@
 // The finish of Insert on the card's parts: document 01, "Insert puts the record, with stamp t, into the lowest dummy slot of
 // the root, then evicts the first path, then the second." The card looks at itself and at the room first (13, 3, 11). All is
 // prepared before the first word is written.
-// Stands on `prepare`, `settle`, `mend` and what is below.
+// Stands on `prepare`, `settle`, `writing` and what is below.
 ghost use mathlib.Core.List.{_++_};
 ghost use Prim.Native.Nat.{_*_, _≤_};
 ghost use Rattle.path.specs.Layout.{bucketWords};

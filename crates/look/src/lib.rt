@@ -1,6 +1,6 @@
 // The look at what a finish fetched: document 01, "Refusal numbers", Damaged, its first three clauses. What card and fetched
 // words show is laid in the scratches of the work and looked at; no word is written.
-// Stands on `settle`, `work`, `damage` and what is below.
+// Stands on `settle`, `shown`, `damage` and what is below.
 ghost use Rattle.look.specs.Look.{PathLookRoom, PathLooks, PairLookRoom, PairLooks};
 use path::Sizes;
 use record::Leaf;

@@ -1,6 +1,6 @@
 // An Insert worked out: document 01, "puts the record, with stamp t, into the lowest dummy slot of the root, then evicts the
 // first path, then the second", all in scratches, and the card that would come out is judged. No word is written here.
-// Stands on `look`, `settle`, `work` and what is below.
+// Stands on `look`, `settle`, `pair` and what is below.
 ghost use mathlib.Core.Path.{_≡_};
 ghost use Prim.Native.Nat.{_*_};
 ghost use lib.ListN.{length};

@@ -2,7 +2,7 @@
 // the path, by the dummy; Delete does so with the record that has this label and stamp, or answers Absent and removes
 // nothing. Then the path is evicted." The card looks at itself and at the room first (13, 3, 11).
 // All is prepared before the first word is written.
-// Stands on `look`, `settle`, `work`, `mend` and what is below.
+// Stands on `look`, `settle`, `work`, `writing` and what is below.
 ghost use mathlib.Core.Path.{_≡_};
 ghost use mathlib.Core.Bool.{cond};
 ghost use Prim.Native.Nat.{_*_, _-_, _≤_};

@@ -1,7 +1,7 @@
 // A request: document 01, "A request, step by step". What waits on a card, when a request is refused with a number from 4 to
 // 10 ("Refusal numbers"), and how much room its list and its words need. The root goes in as words, four to a place, so that
 // nothing copies 64 records.
-// Stands on `record`, `path`, `refusal`, `root`.
+// Stands on `record`, `path`, `lists`, `refusal`, `root`.
 ghost use mathlib.Core.Path.{_≡_};
 ghost use Prim.Native.Nat.{_≤_, _*_};
 ghost use lib.ListN.{length};
