@@ -1,21 +1,19 @@
 -- The loop over a chunk: where it begins, a line that ends, an open line, and what it comes to. Assumes nothing.
-use Prim.Native.Nat.{ℕ, suc, _+_, _-_, _≤_, _<_, min}
-use mathlib.Core.Bool.{Bool, true, false, cond, _&&_}
-use mathlib.Core.List.{List, [], _∷_, _++_, append-assoc, append-nil}
+use Prim.Native.Nat.{ℕ, suc, _+_, _-_, _≤_, _<_}
+use mathlib.Core.Bool.{true, false, _&&_}
+use mathlib.Core.List.{List, [], _∷_, _++_, append-assoc}
 use mathlib.Core.Path.{_≡_, refl, sym, ap, _∙_}
 use native.Mathlib.Omega.{arith}
 use lib.Dec.{ltb, leb}
-use lib.ListN.{length, take, drop, replicate, length-append, length-take, length-drop, drop-of-length-le}
+use lib.ListN.{length, take, drop, length-append, length-take, length-drop, drop-of-length-le}
 use lib.Seq.{length-take-le, take-at, drop-at, drop-drop, take-all}
 use borrow.Author.Tests.{ltb-false, leb-false}
-use borrow.Rule.Slice.PartMut.{midOf, postOf, putMid}
 use Rattle.fields.specs.Pieces.{before}
 use Rattle.lines.specs.Says.{lineSays}
 use Rattle.steps.specs.declared.Desk.{Desk}
 use Rattle.steps.specs.Step.{stepOf}
 use Rattle.replies.specs.declared.Printed.{Printed}
-use Rattle.replies.specs.Reply.{bytesOf, Prints}
-use Rattle.decimal.specs.Promises.{Laid}
+use Rattle.replies.specs.Reply.{Prints}
 use Rattle.decimal.proofs.PrintLaws.{laid-in-room}
 use Rattle.frames.specs.declared.Taken.{Taken}
 use Rattle.frames.specs.Framing.{endedIn, begunBy, Takes}

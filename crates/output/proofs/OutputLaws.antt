@@ -1,8 +1,7 @@
 -- Lines behind others are answered from the state that those leave; and only what a line says counts. Assumes nothing.
 use Prim.Native.Nat.{ℕ}
 use mathlib.Core.List.{List, [], _∷_, _++_, append-assoc, append-nil}
-use mathlib.Core.Path.{_≡_, refl, sym, ap}
-use Rattle.lines.specs.Says.{lineSays}
+use mathlib.Core.Path.{_≡_, refl, sym}
 use Rattle.output.specs.Output.{State, replyTo, behind, repliesTo, behindAll}
 
 pub replies-joined :

@@ -2,18 +2,17 @@
 use Prim.Native.Nat.{ℕ, zero, suc, _+_, _*_, _^_, _≤_}
 use mathlib.Core.Bool.{true, false, cond}
 use mathlib.Core.List.{List, [], _∷_}
-use mathlib.Core.Path.{_≡_, refl, _∙_}
+use mathlib.Core.Path.{_≡_}
 use native.Mathlib.Omega.{arith}
 use lib.Dec.{ltb}
 use lib.ListN.{length, length-append}
-use Rattle.record.specs.declared.Record.{Record}
-use Rattle.decimal.specs.Digits.{fewest, widthOf, decimal}
+use Rattle.decimal.specs.Digits.{fewest, decimal}
 use Rattle.frames.specs.Answer.{markOf, answerLine}
 use Rattle.card.specs.declared.Answer.{Answer}
 use Rattle.card.specs.declared.Answer.the-variants.{Started, Listed, Least, Withdrawn, Inserted, Extracted, Deleted, Refused}
 use Rattle.steps.specs.declared.Reply.{Reply}
 use Rattle.steps.specs.declared.Reply.the-variants.{Unreadable, Said}
-use Rattle.said.specs.Said.{eventNumbers, numbersOf}
+use Rattle.said.specs.Said.{numbersOf}
 use Rattle.replies.specs.Reply.{bytesOf}
 use Rattle.decimal.proofs.PrintLaws.{decimal-length}
 use Rattle.output.specs.Room.{replyMost}

@@ -1,6 +1,6 @@
 -- The first and the last of a sitting: the card that a refused start hands back; a last line that lacks its end. Assumes nothing.
 use Prim.Native.Nat.{ℕ, _<_, min}
-use mathlib.Core.Bool.{false, cond}
+use mathlib.Core.Bool.{false}
 use mathlib.Core.List.{List, [], _∷_, append-nil}
 use mathlib.Core.Path.{_≡_, refl, sym, ap, _∙_}
 use native.Mathlib.Omega.{arith}
@@ -12,17 +12,14 @@ use Rattle.card.specs.declared.Card.{Card}
 use Rattle.card.specs.declared.Done.{Done}
 use Rattle.card.specs.Answers.{orRefused, Answered}
 use Rattle.card.specs.Calls.{zeroCard, startTable, started}
-use Rattle.steps.specs.declared.Desk.{Desk}
-use Rattle.steps.specs.Step.{stepOf}
 use Rattle.replies.specs.declared.Printed.{Printed}
 use Rattle.replies.specs.Reply.{Prints}
-use Rattle.decimal.specs.Promises.{Laid}
 use Rattle.decimal.proofs.PrintLaws.{in-room}
 use Rattle.frames.specs.Framing.{lastOf}
 use Rattle.frames.proofs.TakeLaws.{take-min}
 use Rattle.sitting.specs.declared.Sitting.{Sitting}
-use Rattle.output.specs.Output.{State, replyTo, behind, repliesTo, behindAll}
-use Rattle.sitting.specs.Sitting.{begins, stateOf, openLine, Closes}
+use Rattle.output.specs.Output.{repliesTo, behindAll}
+use Rattle.sitting.specs.Sitting.{begins, openLine, Closes}
 
 -- ---- before the first byte
 zero-start : (d : Done) → Answered zeroCard (firstGiven (startTable (sizesOf 0 0 0 0))) (started (sizesOf 0 0 0 0)) d → d .card ≡ zeroCard

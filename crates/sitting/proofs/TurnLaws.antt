@@ -5,13 +5,12 @@ use mathlib.Core.List.{List, [], _++_, append-nil}
 use mathlib.Core.Path.{_≡_, sym, ap, subst, _∙_}
 use native.Mathlib.Omega.{arith}
 use lib.Dec.{ltb, leb}
-use lib.ListN.{length, take, drop, replicate, length-append, length-drop, drop-of-length-le}
+use lib.ListN.{length, take, drop, replicate, length-drop, drop-of-length-le}
 use lib.Seq.{take-all}
 use borrow.Author.Tests.{ltb-true, leb-true}
 use borrow.Rule.Slice.PartMut.{midOf, postOf, putMid}
-use Rattle.decimal.proofs.PrintLaws.{laid-within}
 use Rattle.frames.specs.declared.Taken.{Taken}
-use Rattle.frames.specs.Framing.{begunBy, Takes}
+use Rattle.frames.specs.Framing.{Takes}
 use Rattle.frames.proofs.TakeLaws.{take-min, takes-some}
 use Rattle.steps.specs.declared.Desk.{Desk}
 use Rattle.replies.specs.declared.Printed.{Printed}
@@ -19,7 +18,6 @@ use Rattle.replies.specs.Reply.{Prints}
 use Rattle.output.specs.Output.{State}
 use Rattle.output.specs.Room.{replyMost}
 use Rattle.sitting.specs.declared.Sitting.{Sitting}
-use Rattle.sitting.specs.declared.Fed.{Fed}
 use Rattle.sitting.specs.Sitting.{stateOf, openLine, Feeds}
 use Rattle.output.proofs.FeedLaws.{Feeding, feeding-room, feeding-open, feeding-ended, none-more, held-is, line-is}
 

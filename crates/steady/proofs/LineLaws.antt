@@ -1,7 +1,7 @@
 -- One line on a desk that holds a queue, or none: what it comes to, and what the desk holds then. Assumes nothing.
 use Prim.Native.Nat.{ℕ, _≤_}
 use mathlib.Core.Bool.{Bool, true, false, cond}
-use mathlib.Core.List.{List, [], _++_}
+use mathlib.Core.List.{List, []}
 use mathlib.Core.Logic.{inl, inr}
 use mathlib.Core.Option.{Option, none, some}
 use mathlib.Core.Path.{_≡_, refl, sym, ap, _∙_, subst}
@@ -16,7 +16,7 @@ use Rattle.path.specs.Sizes.{sizesOf, inRange}
 use Rattle.path.specs.Layout.{freshTree}
 use Rattle.refusal.specs.Refusal.{firstGiven}
 use Rattle.card.specs.declared.Card.{Card}
-use Rattle.card.specs.declared.Answer.the-variants.{Started, Least, Refused}
+use Rattle.card.specs.declared.Answer.the-variants.{Least, Refused}
 use Rattle.request.specs.declared.Waiting.{Waiting}
 use Rattle.request.specs.declared.Waiting.the-variants.{Insert as AskInsert, Extract as AskExtract, Delete as AskDelete}
 use Rattle.request.specs.Tables.{waits}
@@ -25,10 +25,9 @@ use Rattle.card.specs.Answers.{refused, orRefused}
 use Rattle.card.specs.Calls.{freshCard, minTable, foundMin}
 use Rattle.served.proofs.CallLaws.{start-ready, ready-card}
 use Rattle.served.proofs.FinishedLaws.{WordKey}
-use Rattle.honest.specs.Seen.{ownNumber}
 use Rattle.honest.proofs.RoundLaws.{request-own, own-range}
 use Rattle.demands.specs.Queue.{Queue, emptyQueue, leastEvent, reply, next, told as toldOf}
-use Rattle.demands.specs.Says.{eventOf, asks}
+use Rattle.demands.specs.Says.{asks}
 use Rattle.demands.proofs.AnswerLaws.{least-told}
 use Rattle.lines.specs.declared.Line.{Line}
 use Rattle.lines.specs.declared.Line.the-variants.{Unreadable, Size, Insert, Min, Extract, Delete}

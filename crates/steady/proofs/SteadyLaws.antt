@@ -1,8 +1,8 @@
 -- Line after line, from a desk that has accepted no `size`. Assumes nothing.
-use Prim.Native.Nat.{ℕ, _<_, _≤_, _^_}
+use Prim.Native.Nat.{ℕ, _<_, _^_}
 use mathlib.Core.Bool.{Bool, true, false, cond, _&&_, and-eq-true-iff}
 use mathlib.Core.List.{List, [], _∷_, map}
-use mathlib.Core.Option.{Option, none, some}
+use mathlib.Core.Option.{Option, none}
 use mathlib.Core.Path.{_≡_, refl}
 use native.Mathlib.Omega.{arith}
 use lib.Dec.{eqb, leb}
@@ -12,15 +12,14 @@ use Rattle.decimal.specs.Field.{isNumber}
 use Rattle.decimal.proofs.DecimalLaws.{number-plain}
 use Rattle.demands.specs.Queue.{Queue}
 use Rattle.lines.specs.declared.Line.{Line}
-use Rattle.lines.specs.declared.Line.the-variants.{Unreadable, Size, Insert, Min, Extract, Delete}
+use Rattle.lines.specs.declared.Line.the-variants.{Unreadable}
 use Rattle.fields.specs.Pieces.{same, fieldsOf}
 use Rattle.lines.specs.Says.{linesOf}
-use Rattle.lines.specs.Says.{Kind, kinds, saidOf, saidBy, fieldsSay, lineMost, lineSays, at, sizeKind, insertKind, minKind, extractKind, deleteKind}
+use Rattle.lines.specs.Says.{Kind, saidOf, saidBy, fieldsSay, lineMost, lineSays, at, sizeKind, insertKind, minKind, extractKind, deleteKind}
 use Rattle.fields.specs.Behind.{allNumbers}
 use Rattle.steps.specs.declared.Desk.{Desk}
-use Rattle.steps.specs.Step.{stepOf}
 use Rattle.steady.specs.Steady.{Keeps, Sits, ended, turned}
-use Rattle.steady.proofs.LineLaws.{WordLine, Played, one-line}
+use Rattle.steady.proofs.LineLaws.{WordLine, one-line}
 
 -- ---- "numbers are plain decimal below 2^64": so is an Insert's key
 first-word : (fields : List (List ℕ)) → allNumbers fields ≡ true → at (map value fields) 0 < 2 ^ 64
