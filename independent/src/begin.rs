@@ -59,15 +59,7 @@ pub fn find_min(card: &Card) -> Result<Answer, Refusal> {
     if card.c == 0 {
         return Err(Refusal::Empty);
     }
-    let least = card.least;
-    Ok(Answer {
-        key: least.key,
-        value: least.value,
-        label: least.label,
-        stamp: least.stamp,
-        found: 0,
-        words: 0,
-    })
+    Ok(Answer::of(&card.least))
 }
 
 /// "Withdraw drops the waiting request and changes nothing else." It checks 13 and 3.

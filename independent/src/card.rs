@@ -51,6 +51,19 @@ pub struct Answer {
     pub words: u64,
 }
 
+impl Answer {
+    /// The event's four numbers, with no words moved yet.
+    pub fn of(event: &Record) -> Answer {
+        Answer {
+            key: event.key,
+            value: event.value,
+            label: event.label,
+            stamp: event.stamp,
+            ..Answer::default()
+        }
+    }
+}
+
 /// "Height h: 1 to 16." "Z slots in each bucket below the root: 1 to 5."
 pub fn tree_sizes_good(h: u64, z: u64) -> bool {
     (1..=16).contains(&h) && (1..=5).contains(&z)

@@ -141,18 +141,7 @@ impl Run {
             }
             Request::ExtractMin => match self.queue.least() {
                 None => Err(Refusal::Empty),
-                Some(Record {
-                    key,
-                    value,
-                    label,
-                    stamp,
-                }) => Ok(Answer {
-                    key,
-                    value,
-                    label,
-                    stamp,
-                    ..Answer::default()
-                }),
+                Some(event) => Ok(Answer::of(&event)),
             },
             Request::Delete { label, stamp } => {
                 if label >= n {
@@ -244,24 +233,7 @@ impl Run {
     fn find_min(&self) -> bool {
         match (self.queue.least(), self.heap.find_min()) {
             (None, Err(refusal)) => refusal == Refusal::Empty,
-            (
-                Some(Record {
-                    key,
-                    value,
-                    label,
-                    stamp,
-                }),
-                Ok(given),
-            ) => {
-                given
-                    == Answer {
-                        key,
-                        value,
-                        label,
-                        stamp,
-                        ..Answer::default()
-                    }
-            }
+            (Some(event), Ok(given)) => given == Answer::of(&event),
             _ => false,
         }
     }

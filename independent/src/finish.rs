@@ -101,19 +101,7 @@ fn work(card: &mut Card, fetched: &mut Fetched, request: &Request) -> Option<Ans
             card.c = card.c.checked_sub(1)?;
             evict(card, fetched, path_leaf);
             update_least(card, fetched, &[path_leaf]);
-            let Record {
-                key,
-                value,
-                label,
-                stamp,
-            } = record;
-            Some(Answer {
-                key,
-                value,
-                label,
-                stamp,
-                ..Answer::default()
-            })
+            Some(Answer::of(&record))
         }
         Request::Delete { label, stamp } => {
             // "Delete does so with the record that has this label and stamp, or answers Absent and

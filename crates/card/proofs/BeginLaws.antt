@@ -1,39 +1,39 @@
 -- What a begin that is not refused tells: a good card, no request that waits, a request within its rules, room for its
 -- list. Assumes nothing.
 use Prim.Native.Nat.{ℕ, _+_, _/_, _≤_, _<_}
-use mathlib.Core.Bool.{Bool, true, false, cond, _||_}
+use mathlib.Core.Bool.{true, false, cond}
 use mathlib.Core.List.{List, []}
 use mathlib.Core.Logic.{inl, inr}
-use mathlib.Mathlib.Data.Bool.Basic.{dichotomy}
-use mathlib.Core.Path.{_≡_, refl, ap, _∙_}
+use mathlib.Mathlib.Data.Bool.Basic.{dichotomy, or-eq-false-eq-eq-false-and-eq-false as neither}
+use mathlib.Core.Path.{_≡_, refl, sym, ap, subst, _∙_}
 use native.Mathlib.Omega.{arith}
 use lib.Dec.{ltb, eqb}
 use lib.ListN.{length}
 use borrow.Author.Tests.{eqb-false, eq-eqb, ne-eqb, leb-false, ltb-false, lt-ltb, le-ltb, not-false}
 use Rattle.record.specs.declared.Leaf.{Leaf}
 use Rattle.record.specs.declared.Stamp.{Stamp}
+use Rattle.record.proofs.StandingLaws.{proper-true}
+use Rattle.path.specs.declared.sizes.Sizes.{Sizes}
 use Rattle.record.specs.Standing.{dummyKey, known, isDummy, isProper, mayStand}
-use Rattle.path.specs.declared.list.Listed.{Listed as Counts}
-use Rattle.path.specs.BucketList.{numbers, counts, pairList, pathList, Names}
+use Rattle.lists.specs.declared.Listed.{Listed as Counts}
+use Rattle.lists.specs.BucketList.{numbers, counts, Names}
 use Rattle.path.proofs.SizesLaws.{in-range}
-use Rattle.path.proofs.ListLaws.{length-numbers, pair-counts, path-counts}
+use Rattle.lists.proofs.ListLaws.{length-numbers, pair-counts, path-counts}
 use Rattle.refusal.specs.Refusal.{firstGiven}
 use Rattle.refusal.proofs.RefusalLaws.{none-given, Numbered, none, next, first-append, append-none}
 use Rattle.root.specs.Root.{rootFull}
 use Rattle.card.specs.declared.Card.{Card}
 use Rattle.request.specs.declared.Waiting.{Waiting}
 use Rattle.request.specs.declared.Waiting.the-variants.{Nothing, Insert, Extract, Delete}
-use Rattle.card.specs.declared.Answer.the-variants.{Listed}
 use Rattle.request.specs.Tables.{badLabel, insertRows, extractRows, deleteRows, requestRows, waits}
 use Rattle.card.specs.Tables.{leavesIn, nextStamp, requestTable}
 use Rattle.card.specs.BadCard.{badCard}
 use Rattle.judge.specs.BadParts.{oddLeast}
 use Rattle.card.specs.Answers.{refused}
 use Rattle.request.specs.Tables.{countsFor}
-use Rattle.card.specs.Calls.{listOf, beginTable, withWaiting, begun, Begins}
+use Rattle.card.specs.Calls.{listFor, listOf, leavesWithin, Listable, beginTable, listed, begun, Begins}
 use Rattle.card.proofs.AnswerLaws.{is-refused, is-done}
 use Rattle.card.proofs.GoodLaws.{Good, good}
-use Rattle.judge.proofs.FitLaws.{neither}
 
 -- every row of a request's table has a number
 pub request-numbered : (k : Card) (w : Waiting) → Numbered (requestTable k w)
@@ -123,9 +123,9 @@ insertable k key value label first second e =
     let c = none-given 6 _ _ (omega arith) (b .1) in
     let d = none-given 9 _ _ (omega arith) (c .1) in
     let f = none-given 10 _ _ (omega arith) (d .1) in
-    let l = neither (badLabel (leavesIn k) label) _ (c .0) in
-    let m = neither _ _ (l .1) in
-    let n = neither _ _ (m .1) in
+    let l = neither (badLabel (leavesIn k) label) _ .0 (c .0) in
+    let m = neither _ _ .0 (l .1) in
+    let n = neither _ _ .0 (m .1) in
     record {
       time = eqb-false _ _ (a .0);
       key = eqb-false _ _ (b .0);
@@ -170,8 +170,35 @@ least-proper k g h = elim (dichotomy (isDummy (k .least))) [
       not-false _ o
   | inr t ↦
       let o = rw t at (g .odd) in
-      absurd (h (omega (arith, ltb-false 0 (k .c) (neither _ _ o .0))))
+      absurd (h (omega (arith, ltb-false 0 (k .c) (neither _ _ .0 o .0))))
 ]
+
+-- a list that may be laid
+leaves-within : (k : Card) (w : Waiting) → Good k → firstGiven (requestTable k w) ≡ 0 → leavesWithin (leavesIn k) (k .least .label) w
+leaves-within k Nothing g e = refl
+leaves-within k (Insert key value label first second) g e =
+    let d = insertable k key value label first second e in
+    (omega (arith, d .first), d .second .1)
+leaves-within k Extract g e = proper-true _ _ _ (least-proper k g (extractable k e .some)) .label
+leaves-within k (Delete label stamp) g e = deletable k label stamp e .label
+
+pub listable : (k : Card) (w : Waiting) (room : ℕ) → Accepted k w room → Listable (k .sizes) (k .least .label) w room
+unfolding listOf
+listable k w room b =
+    record {
+      height = in-range (k .sizes) (b .card .sizes) .tree .height;
+      leaves = leaves-within k w (b .card) (b .request);
+      place = b .place;
+    }
+
+-- told of the request that is begun
+module _ (s : Sizes) (least : Leaf) (w v : Waiting) (e : w ≡ v) where
+  pub listable-for : (room : ℕ) → Listable s least w room → Listable s least v room
+  listable-for room p = subst (λ (x : Waiting). Listable s least x room) e p
+
+  pub names-for : (before after : List ℕ) (n : Counts) → Names (listFor (s .h) least v) before after n
+      → Names (listFor (s .h) least w) before after n
+  names-for before after n p = subst (λ (x : Waiting). Names (listFor (s .h) least x) before after n) (sym e) p
 
 -- ---- what a begin answers
 module _ (k : Card) (w : Waiting) (before : List ℕ) (number : ℕ) (why : number ≡ firstGiven (beginTable k w (length before))) where
@@ -183,7 +210,7 @@ module _ (k : Card) (w : Waiting) (before : List ℕ) (number : ℕ) (why : numb
       }
 
   pub begin-done : (after : List ℕ) (n : Counts) → number ≡ 0 → Names (listOf k w) before after n
-      → Begins k w before after (record { card = withWaiting k w; answer = Listed (n .whole) (n .least) })
+      → Begins k w before after (listed k w n)
   begin-done after n h l =
       record {
         call = rw (← why, l .counted) (is-done k number (begun k w) h refl);

@@ -2,7 +2,7 @@
 use Prim.Native.Nat.{ℕ, _≤_, _<_}
 use mathlib.Core.Bool.{true, false, true≢false}
 use mathlib.Core.List.{List}
-use mathlib.Core.Path.{_≡_, sym, ap, subst, _∙_}
+use mathlib.Core.Path.{_≡_, refl, sym, ap, subst, _∙_}
 use native.Mathlib.Omega.{arith}
 use lib.ListN.{length}
 use borrow.Author.Tests.{lt-ltb, le-ltb, ltb-false, not-false}
@@ -10,10 +10,11 @@ use Rattle.record.specs.declared.Leaf.{Leaf}
 use Rattle.record.specs.declared.Stamp.{Stamp}
 use Rattle.record.specs.Standing.{isProper}
 use Rattle.record.proofs.StandingLaws.{proper-true}
-use Rattle.path.specs.BucketList.{counts, fetchedFor}
-use Rattle.path.specs.declared.list.Listed.{Listed as Counts}
+use Rattle.lists.specs.BucketList.{counts, fetchedFor}
+use Rattle.lists.specs.declared.Listed.{Listed as Counts}
 use Rattle.path.proofs.SizesLaws.{in-range}
 use Rattle.settle.specs.Room.{Parts, RemovalRoom, InsertionRoom}
+use Rattle.finishes.specs.Finishes.{Finishable}
 use Rattle.refusal.specs.Refusal.{firstGiven}
 use Rattle.refusal.proofs.RefusalLaws.{none-given, Numbered, none, next}
 use Rattle.card.specs.declared.Card.{Card}
@@ -96,7 +97,7 @@ pub clock-fits : (k : Card) → Good k → k .t ≤ 4294967295
 clock-fits k g = parts-fit k g .counts .0
 
 module _ (k : Card) (ws : List ℕ) where
-  pub insertion-room : (key value : ℕ) (label first second : Leaf) → Ready k (Insert key value label first second) (length ws)
+  insertion-room : (key value : ℕ) (label first second : Leaf) → Ready k (Insert key value label first second) (length ws)
       → InsertionRoom (k .sizes) (k .t) (k .c) first second ws
   unfolding countsFor
   insertion-room key value label first second r =
@@ -109,7 +110,7 @@ module _ (k : Card) (ws : List ℕ) where
         fetched = omega arith;
       }
 
-  pub deletion-room : (label : Leaf) (stamp : Stamp) → Ready k (Delete label stamp) (length ws)
+  deletion-room : (label : Leaf) (stamp : Stamp) → Ready k (Delete label stamp) (length ws)
       → RemovalRoom (k .sizes) (k .t) (k .c) label ws
   unfolding countsFor
   deletion-room label stamp r =
@@ -121,10 +122,10 @@ module _ (k : Card) (ws : List ℕ) where
       }
 
   -- the root's least record is a live event
-  pub extracted-proper : Ready k Extract (length ws) → isProper (leavesIn k) (nextStamp k) (k .least) ≡ true
+  extracted-proper : Ready k Extract (length ws) → isProper (leavesIn k) (nextStamp k) (k .least) ≡ true
   extracted-proper r = least-proper k (r .card) (extractable k (r .request) .some)
 
-  pub extraction-room : Ready k Extract (length ws) → RemovalRoom (k .sizes) (k .t) (k .c) (k .least .label) ws
+  extraction-room : Ready k Extract (length ws) → RemovalRoom (k .sizes) (k .t) (k .c) (k .least .label) ws
   unfolding countsFor
   extraction-room r =
       let n = r .words in
@@ -133,3 +134,15 @@ module _ (k : Card) (ws : List ℕ) where
         leaf = proper-true _ _ _ (extracted-proper r) .label;
         fetched = omega arith;
       }
+
+  -- so the finish of the card's parts has what it asks for
+  parts-ready : (w : Waiting) → k .waiting ≡ w → firstGiven (entryTable k (length ws)) ≡ 0
+      → Finishable (k .sizes) (k .t) (k .c) (k .least) w ws
+  parts-ready Nothing e f = some-waits k (length ws) f e
+  parts-ready (Insert key value label first second) e f =
+      insertion-room key value label first second (ready k (Insert key value label first second) (length ws) e f)
+  parts-ready Extract e f = let r = ready k Extract (length ws) e f in (extraction-room r, extracted-proper r)
+  parts-ready (Delete label stamp) e f = deletion-room label stamp (ready k (Delete label stamp) (length ws) e f)
+
+  pub request-ready : firstGiven (entryTable k (length ws)) ≡ 0 → Finishable (k .sizes) (k .t) (k .c) (k .least) (k .waiting) ws
+  request-ready f = parts-ready (k .waiting) refl f

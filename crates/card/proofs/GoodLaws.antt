@@ -1,8 +1,9 @@
 -- A good card, fact by fact: what a card that is not bad tells, and what makes one. Assumes nothing.
 use Prim.Native.Nat.{_≤_}
-use mathlib.Core.Bool.{Bool, true, false, _||_}
+use mathlib.Core.Bool.{true, false, _||_}
 use mathlib.Core.List.{List}
 use mathlib.Core.Path.{_≡_}
+use mathlib.Mathlib.Data.Bool.Basic.{or-eq-false-eq-eq-false-and-eq-false as neither}
 use lib.ListN.{take, drop}
 use borrow.Author.Tests.{eqb-true, not-false}
 use Rattle.record.specs.declared.Record.{Record}
@@ -11,7 +12,7 @@ use Rattle.record.specs.Order.{noLater}
 use Rattle.record.specs.Many.{every, reals, stampTwice}
 use Rattle.path.specs.Sizes.{inRange}
 use Rattle.judge.specs.BadParts.{oddLeast}
-use Rattle.judge.proofs.FitLaws.{Fit, fit, fit-parts, neither}
+use Rattle.judge.proofs.FitLaws.{Fit, fit, fit-parts}
 use Rattle.refusal.specs.Refusal.{firstGiven}
 use Rattle.card.specs.declared.Card.{Card}
 use Rattle.card.specs.Tables.{leavesIn, nextStamp, requestTable}
@@ -36,7 +37,7 @@ module _ (k : Card) where
   pub good : badCard k ≡ false → Good k
   unfolding badCard
   good e =
-      let (p, w) = neither _ _ e in
+      let (p, w) = neither _ _ .0 e in
       let f = fit _ _ _ _ _ p in
       record {
         sizes = f .sizes;

@@ -4,4 +4,5 @@ pub mod AnswerLaws
 pub mod BeginLaws
 pub mod CallLaws
 pub mod FinishLaws
+mod CheckLaws
 pub mod FinishedLaws

@@ -1,50 +1,44 @@
 -- Finish: document 01, "A request, step by step". What the work leaves and when it is Damaged stand in
--- settle/specs/Left.antt; here they are taken for the request that waits. Assumes nothing.
-use Prim.Native.Nat.{ℕ, suc}
-use mathlib.Core.Bool.{Bool, false, not, cond}
+-- finishes/specs/Finishes.antt; here they are taken of the card. Assumes nothing.
+use Prim.Native.Nat.{ℕ, suc, _+_}
+use mathlib.Core.Bool.{Bool, cond}
 use mathlib.Core.List.{List, [], _∷_, _++_}
 use mathlib.Core.Path.{_≡_}
 use lib.Dec.{ltb, eqb}
 use lib.ListN.{length}
-use Rattle.record.specs.declared.Leaf.{Leaf}
 use Rattle.record.specs.declared.Record.{Record}
-use Rattle.record.specs.Standing.{recordOf, same}
-use Rattle.path.specs.BucketList.{counts, fetchedFor, wordsMoved}
-use Rattle.gather.specs.Removal.{named}
+use Rattle.lists.specs.BucketList.{counts, fetchedFor, wordsMoved}
 use Rattle.refusal.specs.Refusal.{Refusal, row, firstGiven}
-use Rattle.settle.specs.Left.{Left, wordsLeft, removal, insertion, removalDamaged, insertionDamaged}
+use Rattle.settle.specs.Left.{Left, wordsLeft}
+use Rattle.settle.specs.declared.Settled.{Settled}
+use Rattle.finishes.specs.Finishes.{leftFor, damagedFor}
 use Rattle.card.specs.declared.Card.{Card}
 use Rattle.request.specs.declared.Waiting.{Waiting}
 use Rattle.request.specs.declared.Waiting.the-variants.{Nothing, Insert, Extract, Delete}
-use Rattle.card.specs.declared.Answer.the-variants.{Inserted, Extracted, Deleted}
+use Rattle.card.specs.declared.Answer.{Answer}
+use Rattle.card.specs.declared.Answer.the-variants.{Inserted, Extracted, Deleted, Refused}
 use Rattle.card.specs.declared.Done.{Done}
 use Rattle.card.specs.BadCard.{badCard}
-use Rattle.request.specs.Tables.{waits}
-use Rattle.card.specs.Tables.{nextStamp}
-use Rattle.card.specs.Answers.{refused, Answered}
+use Rattle.checks.specs.Checks.{idleRows}
+use Rattle.card.specs.Tables.{cardOf}
+use Rattle.card.specs.Answers.{Answered}
 use Rattle.card.specs.Calls.{listOf}
 
-module _ (k : Card) where
-  -- "Insert puts the record, with stamp t"
-  abbrev pub newRecord : ℕ → ℕ → Leaf → Record
-  newRecord key value label = recordOf key value label (nextStamp k)
+-- what a finish answers, with the words moved: "It answers label and stamp." of Insert; ExtractMin the record that was the
+-- root's least; Delete whether it was there
+abbrev pub answerTo : Waiting → ℕ → Record → Bool → ℕ → Answer
+answerTo Nothing t least found moved = Refused 3
+answerTo (Insert key value label first second) t least found moved = Inserted label (record { 0 = t }) moved
+answerTo Extract t least found moved = Extracted least moved
+answerTo (Delete label stamp) t least found moved = Deleted found moved
 
-  -- what is left: "ExtractMin replaces the root's least record .. Delete does so with the record that has this label and stamp"
+module _ (k : Card) where
+  -- what is left, and when it is Damaged: those of the card's parts, finishes/specs/Finishes.antt
   unfoldable pub leftBy : Waiting → List ℕ → Left
-  leftBy Nothing ws = record { root = k .root; least = k .least; c = k .c; found = false; buckets = [] }
-  leftBy (Insert key value label first second) ws =
-      insertion (k .sizes) (k .c) (k .root) ws first second (newRecord key value label)
-  leftBy Extract ws = removal (k .sizes) (k .c) (k .root) ws (k .least .label) (same (k .least))
-  leftBy (Delete label stamp) ws = removal (k .sizes) (k .c) (k .root) ws label (named label stamp)
+  leftBy w ws = leftFor (k .sizes) (k .t) (k .c) (k .root) (k .least) w ws
 
   unfoldable pub damagedBy : Waiting → List ℕ → Bool
-  damagedBy Nothing ws = false
-  damagedBy (Insert key value label first second) ws =
-      insertionDamaged (k .sizes) (k .t) (k .c) (k .root) (k .least) ws first second (newRecord key value label)
-  damagedBy Extract ws =
-      removalDamaged (k .sizes) (k .t) (k .c) (k .root) (k .least) ws (k .least .label) (same (k .least))
-  damagedBy (Delete label stamp) ws =
-      removalDamaged (k .sizes) (k .t) (k .c) (k .root) (k .least) ws label (named label stamp)
+  damagedBy w ws = damagedFor (k .sizes) (k .t) (k .c) (k .root) (k .least) w ws
 
   -- "a lent slice too short": fewer words than are fetched for the request's list
   abbrev pub wordsNeeded : ℕ
@@ -52,7 +46,7 @@ module _ (k : Card) where
 
   -- "finish checks 13, 3, 11, 12 only": the first three before anything is looked at
   unfoldable pub entryTable : ℕ → List Refusal
-  entryTable room = row 13 (badCard k) ∷ row 3 (not (waits (k .waiting))) ∷ row 11 (ltb room wordsNeeded) ∷ []
+  entryTable room = idleRows (badCard k) (k .waiting) ++ (row 11 (ltb room wordsNeeded) ∷ [])
 
   abbrev pub finishTable : List ℕ → List Refusal
   finishTable ws = entryTable (length ws) ++ (row 12 (damagedBy (k .waiting) ws) ∷ [])
@@ -67,12 +61,15 @@ module _ (k : Card) where
   movedFor w = wordsMoved (k .sizes .z) (listOf k w)
 
   unfoldable pub finishedBy : Waiting → Left → Done
-  finishedBy Nothing l = refused k 3
-  finishedBy (Insert key value label first second) l =
-      record { card = cardLeft l; answer = Inserted label (nextStamp k) (movedFor (Insert key value label first second)) }
-  finishedBy Extract l = record { card = cardLeft l; answer = Extracted (k .least) (movedFor Extract) }
-  finishedBy (Delete label stamp) l =
-      record { card = cardLeft l; answer = Deleted (l .found) (movedFor (Delete label stamp)) }
+  finishedBy w l = record { card = cardLeft l; answer = answerTo w (k .t) (k .least) (l .found) (movedFor w) }
+
+  -- the same, told by what the finish of the parts handed back
+  abbrev pub doneWith : Settled → Done
+  doneWith out =
+      record {
+        card = cardOf (k .sizes) (k .t + 1) (out .c) (out .root) (out .least) Nothing;
+        answer = answerTo (k .waiting) (k .t) (k .least) (out .found) (out .moved);
+      }
 
   abbrev pub finished : List ℕ → Done
   finished ws = finishedBy (k .waiting) (leftBy (k .waiting) ws)

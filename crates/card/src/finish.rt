@@ -1,17 +1,12 @@
 // Finish: document 01, "Finish takes the fetched words in list order." A finish that is refused hands back the card as it came
 // and leaves every word; the request still waits.
 ghost use mathlib.Core.Path.{_≡_};
-ghost use Prim.Native.Nat.{_+_, _≤_};
-ghost use lib.ListN.{length};
-ghost use Rattle.refusal.specs.Refusal.{firstGiven};
-ghost use Rattle.card.specs.Tables.{cardOf};
-ghost use Rattle.card.specs.Answers.{refused};
-ghost use Rattle.card.specs.Finish.{entryTable, Finishes};
+ghost use Prim.Native.Nat.{_≤_};
+ghost use Rattle.card.specs.Finish.{answerTo, doneWith, Finishes};
 use crate::Answer;
 use crate::Card;
 use crate::Done;
 use crate::why::why_finish;
-use record::Leaf;
 use record::Record;
 use record::Stamp;
 use refusal::DAMAGED;
@@ -19,135 +14,57 @@ use refusal::IDLE;
 use request::Waiting;
 use settle::Settled;
 
-impl Card {
-    // Refused with this number.
-    fn refuse(self, number: u64) -> Done
-        ensures { λ d. ⌜ d ≡ refused self number ⌝ }
-    {
-        let answer = Answer::Refused(number);
-        Done {
-            card: self,
-            answer: answer,
+// What a finish answers to the request that waited, where `least` was the root's least record.
+fn answer_to(waiting: Waiting, t: u64, least: Record, found: bool, moved: u64) -> Answer
+    ensures { λ a. ⌜ a ≡ answerTo waiting t least found moved ⌝ }
+{
+    match waiting {
+        Waiting::Nothing => Answer::Refused(IDLE),
+        Waiting::Insert {
+            key: _,
+            value: _,
+            label,
+            first: _,
+            second: _,
+        } => {
+            let stamp = Stamp(t);
+            Answer::Inserted {
+                label: label,
+                stamp: stamp,
+                words: moved,
+            }
         }
+        Waiting::Extract => Answer::Extracted {
+            event: least,
+            words: moved,
+        },
+        Waiting::Delete { label: _, stamp: _ } => Answer::Deleted {
+            found: found,
+            words: moved,
+        },
     }
+}
 
-    // The card that comes out: one request more is finished, and none waits.
-    fn after(self, out: Settled) -> Card
+impl Card {
+    // The card that comes out, with the answer: one request more is finished, and none waits.
+    fn done_with(self, out: Settled) -> Done
         requires { ⌜ self .t ≤ 4294967295 ⌝ }
-        ensures { λ k. ⌜ k ≡ cardOf (self .sizes) (self .t + 1) (out .c) (out .root) (out .least) Waiting.Nothing ⌝ }
+        ensures { λ d. ⌜ d ≡ doneWith self out ⌝ }
     {
+        let waited = self.waiting;
+        let old = self.least;
+        let answer = answer_to(waited, self.t, old, out.found, out.moved);
         let waiting = Waiting::Nothing;
         let root = out.root;
         let least = out.least;
-        Card {
+        let card = Card {
             t: self.t + 1,
             c: out.c,
             root: root,
             least: least,
             waiting: waiting,
             ..self
-        }
-    }
-
-    fn finish_insert(
-        self,
-        key: u64,
-        value: u64,
-        label: Leaf,
-        first: Leaf,
-        second: Leaf,
-        words: &mut [u64],
-    ) -> Done
-        requires { ⌜ (firstGiven (entryTable self (length (now words))) ≡ 0) × (self .waiting ≡ Waiting.Insert key value label first second) ⌝ }
-        ensures { λ d. ⌜ Finishes self (now (words .entry)) (now (words .exit)) d ⌝ }
-    {
-        let root = self.root;
-        let least = self.least;
-        let sizes = self.sizes;
-        let stamp = Stamp(self.t);
-        let new = Record {
-            key: key,
-            value: value,
-            label: label,
-            stamp: stamp,
         };
-        let out = insertion::settle_insertion(
-            words,
-            root,
-            sizes,
-            self.t,
-            self.c,
-            least,
-            new,
-            first,
-            second,
-        );
-        if out.damaged {
-            return self.refuse(DAMAGED);
-        }
-        let moved = out.moved;
-        let answer = Answer::Inserted {
-            label: label,
-            stamp: stamp,
-            words: moved,
-        };
-        let card = self.after(out);
-        Done {
-            card: card,
-            answer: answer,
-        }
-    }
-
-    fn finish_extract(self, words: &mut [u64]) -> Done
-        requires { ⌜ (firstGiven (entryTable self (length (now words))) ≡ 0) × (self .waiting ≡ Waiting.Extract) ⌝ }
-        ensures { λ d. ⌜ Finishes self (now (words .entry)) (now (words .exit)) d ⌝ }
-    {
-        let root = self.root;
-        let least = self.least;
-        let sizes = self.sizes;
-        let out = removal::settle_removal(
-            words,
-            root,
-            sizes,
-            self.t,
-            self.c,
-            least,
-            least.label,
-            least.stamp,
-        );
-        if out.damaged {
-            return self.refuse(DAMAGED);
-        }
-        let moved = out.moved;
-        let answer = Answer::Extracted {
-            event: least,
-            words: moved,
-        };
-        let card = self.after(out);
-        Done {
-            card: card,
-            answer: answer,
-        }
-    }
-
-    fn finish_delete(self, label: Leaf, stamp: Stamp, words: &mut [u64]) -> Done
-        requires { ⌜ (firstGiven (entryTable self (length (now words))) ≡ 0) × (self .waiting ≡ Waiting.Delete label stamp) ⌝ }
-        ensures { λ d. ⌜ Finishes self (now (words .entry)) (now (words .exit)) d ⌝ }
-    {
-        let root = self.root;
-        let least = self.least;
-        let sizes = self.sizes;
-        let out = removal::settle_removal(words, root, sizes, self.t, self.c, least, label, stamp);
-        if out.damaged {
-            return self.refuse(DAMAGED);
-        }
-        let found = out.found;
-        let moved = out.moved;
-        let answer = Answer::Deleted {
-            found: found,
-            words: moved,
-        };
-        let card = self.after(out);
         Done {
             card: card,
             answer: answer,
@@ -161,18 +78,13 @@ impl Card {
         if number != 0 {
             return self.refuse(number);
         }
+        let root = self.root;
+        let least = self.least;
         let waiting = self.waiting;
-        match waiting {
-            Waiting::Nothing => self.refuse(IDLE),
-            Waiting::Insert {
-                key,
-                value,
-                label,
-                first,
-                second,
-            } => { self.finish_insert(key, value, label, first, second, words) }
-            Waiting::Extract => self.finish_extract(words),
-            Waiting::Delete { label, stamp } => self.finish_delete(label, stamp, words),
+        let out = finishes::settle_request(words, root, self.sizes, self.t, self.c, least, waiting);
+        if out.damaged {
+            return self.refuse(DAMAGED);
         }
+        self.done_with(out)
     }
 }

@@ -3,21 +3,38 @@
 use crate::forged::deleting;
 use crate::forged::extracting;
 use crate::forged::inserting;
-use crate::named::Named;
+use crate::named::CROWDED;
+use crate::named::EMPTIED;
+use crate::named::FULL;
+use crate::named::HELD;
+use crate::named::SPENT;
 use record::DUMMY_KEY;
 
 pub(crate) fn bad_waiting() {
-    inserting(b"Insert waits, 4:", Named::Spent, 6, 1, 1, 2);
-    extracting(b"ExtractMin waits, 4:", Named::Spent);
-    deleting(b"Delete waits, 4:", Named::Spent, 0, 1);
-    inserting(b"Insert waits, 5:", Named::Held, DUMMY_KEY, 1, 1, 2);
-    inserting(b"Insert waits, 6, label:", Named::Held, 6, 4, 1, 2);
-    inserting(b"Insert waits, 6, first leaf:", Named::Held, 6, 1, 2, 2);
-    inserting(b"Insert waits, 6, second low:", Named::Held, 6, 1, 1, 1);
-    inserting(b"Insert waits, 6, second high:", Named::Held, 6, 1, 1, 4);
-    deleting(b"Delete waits, 6:", Named::Held, 4, 1);
-    deleting(b"Delete waits, 7:", Named::Held, 0, 5);
-    extracting(b"ExtractMin waits, 8:", Named::Emptied);
-    inserting(b"Insert waits, 9:", Named::Full, 6, 1, 1, 2);
-    inserting(b"Insert waits, 10:", Named::Crowded, 6, 1, 1, 2);
+    // Insert waits, 4
+    inserting(SPENT, 6, 1, 1, 2);
+    // ExtractMin waits, 4
+    extracting(SPENT);
+    // Delete waits, 4
+    deleting(SPENT, 0, 1);
+    // Insert waits, 5
+    inserting(HELD, DUMMY_KEY, 1, 1, 2);
+    // Insert waits, 6, label
+    inserting(HELD, 6, 4, 1, 2);
+    // Insert waits, 6, first leaf
+    inserting(HELD, 6, 1, 2, 2);
+    // Insert waits, 6, second low
+    inserting(HELD, 6, 1, 1, 1);
+    // Insert waits, 6, second high
+    inserting(HELD, 6, 1, 1, 4);
+    // Delete waits, 6
+    deleting(HELD, 4, 1);
+    // Delete waits, 7
+    deleting(HELD, 0, 5);
+    // ExtractMin waits, 8
+    extracting(EMPTIED);
+    // Insert waits, 9
+    inserting(FULL, 6, 1, 1, 2);
+    // Insert waits, 10
+    inserting(CROWDED, 6, 1, 1, 2);
 }

@@ -20,26 +20,6 @@ pub(crate) fn fresh() -> Card {
     started(2, 1, 2, 16)
 }
 
-// The same sizes with five requests finished and two events live, one in the root's slot 0 and one somewhere below. Slot 1
-// is free.
-pub(crate) fn held() -> Card {
-    let card = slot(fresh(), 0, 5, 50, 0, 1);
-    least(counts(card, 5, 2), 5, 50, 0, 1)
-}
-
-// Both events below the root.
-pub(crate) fn bare() -> Card {
-    let card = held();
-    let mut root = card.root;
-    root[0] = Record::DUMMY;
-    Card { root: root, ..card }
-}
-
-// Both root slots real.
-pub(crate) fn crowded() -> Card {
-    slot(held(), 1, 6, 60, 1, 2)
-}
-
 // Sixty-four live events, the first n of them in a root of 64 slots; N = 128.
 pub(crate) fn large(n: usize) -> Card
     requires { ⌜ n ≤ 64 ⌝ }

@@ -2,64 +2,92 @@
 use crate::calls;
 use crate::cards;
 use crate::line;
-use crate::named::Named;
+use crate::named;
+use crate::named::BELOW;
+use crate::named::HELD;
 use crate::show;
 use crate::tries;
 use card::Card;
 
-fn standing(text: &[u8], card: Card) {
-    line::name(text);
+fn standing(card: Card) {
+    line::name();
     show::card(card);
     line::end();
 }
 
-fn begin(text: &[u8], card: Card, key: u64, label: u64, first: u64, second: u64) -> Card {
+fn begin(card: Card, key: u64, label: u64, first: u64, second: u64) -> Card {
     let mut list = [99u64; 12];
-    calls::insert(text, card, key, label, first, second, &mut list)
+    calls::insert(card, key, label, first, second, &mut list)
 }
 
 // A refused begin leaves the waiting request in place.
 fn begun_twice() -> Card {
-    let begun = begin(b"begin:", cards::fresh(), 6, 1, 1, 2);
-    standing(b"begun:", begun);
-    let again = begin(b"begin again:", begun, 8, 2, 0, 3);
-    standing(b"still:", again);
-    calls::min(b"FindMin:", again)
+    // begin
+    let begun = begin(cards::fresh(), 6, 1, 1, 2);
+    // begun
+    standing(begun);
+    // begin again
+    let again = begin(begun, 8, 2, 0, 3);
+    // still
+    standing(again);
+    // FindMin
+    calls::min(again)
 }
 
 // Once withdrawn, a request may be begun again.
 fn withdrawn_twice(begun: Card) {
-    let dropped = calls::withdraw(b"withdraw:", begun);
-    standing(b"withdrawn:", dropped);
-    let idle = calls::withdraw(b"withdraw again:", dropped);
-    let third = begin(b"begin a third time:", idle, 8, 2, 0, 3);
-    standing(b"begun:", third);
+    // withdraw
+    let dropped = calls::withdraw(begun);
+    // withdrawn
+    standing(dropped);
+    // withdraw again
+    let idle = calls::withdraw(dropped);
+    // begin a third time
+    let third = begin(idle, 8, 2, 0, 3);
+    // begun
+    standing(third);
 }
 
 // What waits is what begin was given.
-fn kinds() {
+fn begun_extract() {
     let mut list = [99u64; 12];
-    let extracting = calls::extract(b"ExtractMin:", cards::held(), &mut list);
-    standing(b"begun:", extracting);
-    let deleting = calls::delete(b"Delete:", cards::held(), 2, 3, &mut list);
-    standing(b"begun:", deleting);
+    // ExtractMin
+    let extracting = calls::extract(named::card(HELD), &mut list);
+    // begun
+    standing(extracting);
+}
+
+fn begun_delete() {
+    let mut list = [99u64; 12];
+    // Delete
+    let deleting = calls::delete(named::card(HELD), 2, 3, &mut list);
+    // begun
+    standing(deleting);
 }
 
 // P12 and P11, where the root's least record has label 0; one that is not in the root; and height 3, where the order of an
 // Insert's siblings shows.
 fn lists() {
-    begin(b"P12:", cards::started(2, 1, 1, 16), 6, 3, 1, 2);
-    tries::extract(b"P11:", Named::Held);
-    tries::extract(b"the least record has label 3:", Named::Below);
-    tries::delete(b"Delete of label 2:", Named::Held, 2, 0);
+    // P12
+    begin(cards::started(2, 1, 1, 16), 6, 3, 1, 2);
+    // P11
+    tries::extract(HELD);
+    // the least record has label 3
+    tries::extract(BELOW);
+    // Delete of label 2
+    tries::delete(HELD, 2, 0);
     let three = cards::started(3, 2, 1, 16);
-    begin(b"height 3, leaves 1 and 6:", three, 6, 3, 1, 6);
-    tries::min(b"FindMin:", Named::Held);
-    tries::min(b"FindMin, below the root:", Named::Below);
+    // height 3, leaves 1 and 6
+    begin(three, 6, 3, 1, 6);
+    // FindMin
+    tries::min(HELD);
+    // FindMin, below the root
+    tries::min(BELOW);
 }
 
 pub(crate) fn runs() {
     withdrawn_twice(begun_twice());
-    kinds();
+    begun_extract();
+    begun_delete();
     lists();
 }

@@ -3,6 +3,7 @@ use crate::line;
 use card::Answer;
 use card::Card;
 use card::Done;
+use path::Sizes;
 use record::Record;
 use request::Waiting;
 
@@ -44,7 +45,7 @@ pub(crate) fn verdict(done: Done) {
 
 // Every place, so that places past the last number show.
 pub(crate) fn list(places: &[u64]) {
-    line::name(b" list");
+    line::text(b" list");
     let mut i = 0;
     while i < places.len() {
         line::number(places[i]);
@@ -55,7 +56,7 @@ pub(crate) fn list(places: &[u64]) {
 // What waits: none, or the kind's name and its numbers.
 fn waiting(request: Waiting) {
     match request {
-        Waiting::Nothing => line::name(b", none waits"),
+        Waiting::Nothing => line::text(b", none waits"),
         Waiting::Insert {
             key,
             value,
@@ -63,42 +64,52 @@ fn waiting(request: Waiting) {
             first,
             second,
         } => {
-            line::name(b", Insert waits");
+            line::text(b", Insert waits");
             line::number(key);
             line::number(value);
             line::number(label.0);
             line::number(first.0);
             line::number(second.0);
         }
-        Waiting::Extract => line::name(b", ExtractMin waits"),
+        Waiting::Extract => line::text(b", ExtractMin waits"),
         Waiting::Delete { label, stamp } => {
-            line::name(b", Delete waits");
+            line::text(b", Delete waits");
             line::number(label.0);
             line::number(stamp.0);
         }
     }
 }
 
+fn sizes(s: Sizes) {
+    line::text(b" sizes");
+    line::number(s.h);
+    line::number(s.z);
+    line::number(s.r);
+    line::number(s.t);
+}
+
+fn counts(t: u64, c: u64) {
+    line::text(b", t");
+    line::number(t);
+    line::text(b", c");
+    line::number(c);
+}
+
+fn named_record(text: &[u8], r: Record) {
+    line::text(text);
+    record(r);
+}
+
 // A card: of the root's places the first and the last.
 pub(crate) fn card(held: Card) {
-    line::name(b" sizes");
-    line::number(held.sizes.h);
-    line::number(held.sizes.z);
-    line::number(held.sizes.r);
-    line::number(held.sizes.t);
-    line::name(b", t");
-    line::number(held.t);
-    line::name(b", c");
-    line::number(held.c);
-    line::name(b", first");
+    sizes(held.sizes);
+    counts(held.t, held.c);
     let first = held.root[0];
-    record(first);
-    line::name(b", last");
+    named_record(b", first", first);
     let last = held.root[63];
-    record(last);
-    line::name(b", least");
+    named_record(b", last", last);
     let least = held.least;
-    record(least);
+    named_record(b", least", least);
     let request = held.waiting;
     waiting(request);
 }

@@ -8,12 +8,12 @@ use card::Card;
 
 fn start(h: u64, z: u64, r: u64, t: u64) {
     let done = Card::start(h, z, r, t);
-    line::name(b"start");
+    line::text(b"start");
     line::number(h);
     line::number(z);
     line::number(r);
     line::number(t);
-    line::name(b":");
+    line::text(b":");
     show::answer(done);
     line::end();
 }
@@ -41,20 +41,20 @@ fn outside() {
 }
 
 // The card that a start hands back, and then what each call gives on it.
-fn handed_back(text: &[u8], each: &[u8], t: u64) {
+fn handed_back(t: u64) {
     let card = cards::started(2, 1, 2, t);
-    line::name(text);
+    line::name();
     show::card(card);
     line::end();
-    calls::each(each, card);
+    calls::each(card);
 }
 
 // A refused start hands back a card with 0 in every field, which every call refuses.
 pub(crate) fn starts() {
     within();
     outside();
-    line::name(b"Of each card: Insert, ExtractMin, Delete, FindMin, withdraw.");
+    line::text(b"Of each card: Insert, ExtractMin, Delete, FindMin, withdraw.");
     line::end();
-    handed_back(b"started:", b"a started card:", 16);
-    handed_back(b"refused:", b"a refused start's card:", 3);
+    handed_back(16);
+    handed_back(3);
 }

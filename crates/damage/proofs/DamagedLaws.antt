@@ -10,9 +10,11 @@ use Rattle.record.specs.Many.{stampTwice}
 use Rattle.record.specs.Order.{leastOf}
 use Rattle.record.proofs.StandingLaws.{same-true, true-same}
 use Rattle.path.specs.Path.{pathBucket}
-use Rattle.way.specs.Least.{inOrder}
-use Rattle.damage.specs.Damage.{pathSound, siblingsSound, leastsTrue}
-use Rattle.damage.specs.Damaged.{Fetched, allSound, allTrue, pathDamaged, pairDamaged}
+use Rattle.least.specs.Least.{inOrder}
+use Rattle.sound.specs.Sound.{pathSound, siblingsSound, allSound}
+use Rattle.truth.specs.Leasts.{leastsTrue, allTrue}
+use Rattle.sound.specs.Fetched.{Fetched}
+use Rattle.damage.specs.Damaged.{pathDamaged, pairDamaged}
 
 -- one clause is enough
 denied : (sound twice true′ : Bool) → (not sound || (twice || not true′)) ≡ false

@@ -23,15 +23,17 @@ use Rattle.record.proofs.OrderLaws.{ordered, smallest-low, dummy-after-proper}
 use Rattle.path.specs.Sizes.{leavesOf}
 use Rattle.path.specs.Path.{number, pathBucket}
 use Rattle.path.specs.Layout.{Contents}
-use Rattle.way.specs.Least.{inOrder}
+use Rattle.least.specs.Least.{inOrder}
 use Rattle.way.specs.Evict.{seek}
-use Rattle.gather.specs.Removal.{found}
+use Rattle.clearing.specs.Removal.{found}
 use Rattle.gather.specs.Shown.{wholeAt, slotsShown, wayShown}
-use Rattle.gather.proofs.RemovalLaws.{found-passes}
+use Rattle.clearing.proofs.RemovalLaws.{found-passes}
 use Rattle.gather.proofs.ShownLaws.{way-root}
-use Rattle.damage.specs.Damage.{kidsShown}
-use Rattle.damage.specs.Damaged.{pathFetched, pathDamaged}
-use Rattle.damage.proofs.SoundLaws.{sound-cases, bucket-sound-at, least-true-at}
+use Rattle.truth.specs.Leasts.{kidsShown}
+use Rattle.sound.specs.Fetched.{pathFetched}
+use Rattle.damage.specs.Damaged.{pathDamaged}
+use Rattle.sound.proofs.SoundLaws.{sound-cases, bucket-sound-at}
+use Rattle.truth.proofs.LevelLaws.{least-true-at}
 use Rattle.damage.proofs.DamagedLaws.{Undamaged, undamaged}
 use Rattle.damage.proofs.OnceLaws.{get-in}
 

@@ -18,8 +18,10 @@ use Rattle.gather.specs.Laid.{laidOver}
 use Rattle.gather.specs.Shown.{siblingsShown}
 use Rattle.gather.proofs.ShownLaws.{bucketsIn, whole-of-part}
 use Rattle.gather.proofs.LoadedLaws.{sibling-loaded}
-use Rattle.damage.specs.Damage.{pathSound, siblingsSound, kidsShown, leastsTrue}
-use Rattle.damage.specs.Damaged.{Fetched, fetchedIn, fetchedFrom, allSound, allTrue, pathDamaged, pairDamaged}
+use Rattle.sound.specs.Sound.{pathSound, siblingsSound, allSound}
+use Rattle.truth.specs.Leasts.{kidsShown, leastsTrue, allTrue}
+use Rattle.sound.specs.Fetched.{Fetched, fetchedIn, fetchedFrom}
+use Rattle.damage.specs.Damaged.{pathDamaged, pairDamaged}
 
 -- a test of some levels sees no others
 every-same : (f g : ℕ → Bool) (a n : ℕ) → ((d : ℕ) → a ≤ d → d < a + n → f d ≡ g d) → every f (upFrom a n) ≡ every g (upFrom a n)

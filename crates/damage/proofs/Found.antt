@@ -23,15 +23,17 @@ use Rattle.path.specs.Sizes.{leavesOf}
 use Rattle.path.specs.Path.{number, pathBucket, siblingOf}
 use Rattle.path.specs.Layout.{Contents}
 use Rattle.path.proofs.PathLaws.{sibling-off, holds-true}
-use Rattle.way.specs.Least.{slotsAt, inOrder}
+use Rattle.least.specs.Least.{slotsAt, inOrder}
 use Rattle.way.specs.Evict.{seek}
-use Rattle.gather.specs.Removal.{named, found}
+use Rattle.clearing.specs.Removal.{named, found}
 use Rattle.gather.specs.Shown.{wholeAt, wayShown}
-use Rattle.gather.proofs.RemovalLaws.{member-found, found-passes}
+use Rattle.clearing.proofs.RemovalLaws.{member-found, found-passes}
 use Rattle.gather.proofs.ShownLaws.{way-slots}
-use Rattle.damage.specs.Damage.{kidsShown}
-use Rattle.damage.specs.Damaged.{pathFetched, pathDamaged}
-use Rattle.damage.proofs.SoundLaws.{sound-cases, sibling-sound-at, least-true-at}
+use Rattle.truth.specs.Leasts.{kidsShown}
+use Rattle.sound.specs.Fetched.{pathFetched}
+use Rattle.damage.specs.Damaged.{pathDamaged}
+use Rattle.sound.proofs.SoundLaws.{sound-cases, sibling-sound-at}
+use Rattle.truth.proofs.LevelLaws.{least-true-at}
 use Rattle.damage.proofs.DamagedLaws.{Undamaged, undamaged}
 use Rattle.damage.proofs.OnceLaws.{stamp-once, get-in}
 

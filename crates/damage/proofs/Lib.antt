@@ -1,8 +1,7 @@
--- Laws of Damaged: what crates above may use, and what the loops that check have seen so far.
-pub mod SoundLaws
+-- Laws of Damaged that crates above may use, and what is looked at at the root.
 pub mod DamagedLaws
 pub mod FetchedLaws
 pub mod OnceLaws
 pub mod Found
 pub mod Empty
-pub mod Checking
+pub mod RootLaws

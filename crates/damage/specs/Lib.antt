@@ -1,4 +1,2 @@
--- Damaged, clause by clause, and put together.
-pub mod Damage
+-- Damaged, put together.
 pub mod Damaged
-pub mod Room

@@ -3,23 +3,20 @@
 //
 // A path's checks are lent the part of the fetched words that holds its h whole buckets, and a scratch where the least
 // record of level d's sibling stands at place d - 1. The stamps are looked at in a scratch that holds all slots together.
-// Stands on `record`, `path`, `way` and the definitions of `gather`.
+// Stands on `record`, `path`, `least`, `stamps`, `sound` and `truth`.
 ghost use mathlib.Core.Path.{_≡_};
 ghost use Prim.Native.Nat.{_*_, _≤_};
 ghost use lib.ListN.{length};
 ghost use Rattle.record.specs.Words.{records};
-ghost use Rattle.damage.specs.Damaged.{fetchedIn, pathDamaged, pairDamaged};
-ghost use Rattle.damage.specs.Room.{Room};
-
-mod leasts;
-mod sound;
-
-use leasts::leasts_true;
+ghost use Rattle.sound.specs.Fetched.{fetchedIn};
+ghost use Rattle.damage.specs.Damaged.{pathDamaged, pairDamaged};
+ghost use Rattle.sound.specs.Room.{Room};
 use path::Sizes;
 use record::Leaf;
 use record::Record;
 use record::Stamp;
 use sound::all_sound;
+use truth::leasts_true;
 
 // The first level whose siblings are fetched: of one path, and of an Insert's two, which have each other at level 1.
 const PATH_SIBLINGS: u64 = 1;
@@ -43,7 +40,7 @@ pub fn path_damaged(
     if !all_sound(path, sibs, sizes, leaf, next, PATH_SIBLINGS) {
         return true;
     }
-    if way::stamp_twice(slots) {
+    if stamps::stamp_twice(slots) {
         return true;
     }
     if !leasts_true(path, sibs, sizes, leaf) {
@@ -51,9 +48,9 @@ pub fn path_damaged(
     }
     let own = Record::read(path, 0);
     let other = Record::read(sibs, 0);
-    let kids = way::kids_least(sizes.bucket_at(leaf, 1), own, other);
+    let kids = least::kids_least(sizes.bucket_at(leaf, 1), own, other);
     let r = sizes.r as usize;
-    !least.same(way::least_over(slots, 0, r, kids))
+    !least.same(least::least_over(slots, 0, r, kids))
 }
 
 // For crates above: Damaged for an Insert's two paths, whose siblings were fetched from level 2 on. `all` is a scratch with
@@ -81,7 +78,7 @@ pub fn pair_damaged(
     if !all_sound(two, two_sibs, sizes, second, next, PAIR_SIBLINGS) {
         return true;
     }
-    if way::stamp_twice(all) {
+    if stamps::stamp_twice(all) {
         return true;
     }
     if !leasts_true(one, one_sibs, sizes, first) {
@@ -94,5 +91,5 @@ pub fn pair_damaged(
     let upper = Record::read(two, 0);
     let kids = lower.smaller(upper.smaller(Record::DUMMY));
     let r = sizes.r as usize;
-    !least.same(way::least_over(all, 0, r, kids))
+    !least.same(least::least_over(all, 0, r, kids))
 }

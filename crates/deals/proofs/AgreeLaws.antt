@@ -12,7 +12,7 @@ use Rattle.request.specs.declared.Waiting.the-variants.{Nothing}
 use Rattle.card.specs.Calls.{listOf}
 use Rattle.demands.specs.Queue.{Queue}
 use Rattle.demands.specs.World.{World, Asked, insert, extract, delete, Call, begin, finish, findMin, step}
-use Rattle.deals.specs.Trace.{storedBack, number, seen, askedFor}
+use Rattle.deals.specs.Trace.{storedBack, numberGiven, seen, askedFor}
 use Rattle.deals.specs.Sequences.{labelled, well}
 use Rattle.deals.proofs.DressLaws.{dressed}
 use Rattle.deals.proofs.RoundLaws.{look-well, look-seen, look-some, look-passes, doneBy, Round}
@@ -23,7 +23,7 @@ use Rattle.deals.proofs.MeetLaws.{Pair, Meets, same-c, pair-look, inser
 -- ---- the rack sees the same
 pub data Agree : World → World → List Call → List Call → Type 0 where
   over : {u v : World} → v .card .waiting ≡ Nothing → Agree u v [] []
-  overflows : {u v : World} {c d : Call} {cs ds : List Call} → number (step v d) ≡ 10 → Agree u v (c ∷ cs) (d ∷ ds)
+  overflows : {u v : World} {c d : Call} {cs ds : List Call} → numberGiven (step v d) ≡ 10 → Agree u v (c ∷ cs) (d ∷ ds)
   goes-on : {u v : World} {c d : Call} {cs ds : List Call} → seen v d ≡ seen u c → well (step v d .answer) ≡ true
       → Agree (step u c .world) (step v d .world) cs ds → Agree u v (c ∷ cs) (d ∷ ds)
 

@@ -12,7 +12,7 @@ use Rattle.request.specs.Tables.{waits}
 use Rattle.demands.specs.Queue.{emptyQueue}
 use Rattle.demands.specs.World.{World, freshWorld, insert, extract, delete, Call, begin, finish, withdraw, findMin, step}
 use Rattle.demands.proofs.Demand2.{fresh-holds}
-use Rattle.deals.specs.Trace.{Seen, number, trace, untilOverflow}
+use Rattle.deals.specs.Trace.{Seen, numberGiven, trace, untilOverflow}
 use Rattle.deals.specs.Sequences.{kindOf, labelled, clean, Valid}
 use Rattle.deals.specs.Dealing.{deal, dealt}
 use Rattle.deals.specs.Demand3.{Demand3, Shows, NeverOverflows, SameTraces}
@@ -27,21 +27,21 @@ agree-traces : {u v : World} {cs ds : List Call} → Agree u v cs ds
     → take (untilOverflow v ds) (trace v ds) ≡ take (untilOverflow v ds) (trace u cs)
 unfolding trace untilOverflow
 agree-traces (over i) = refl
-agree-traces {v = v} (overflows {d = d} e) = rw (eq-eqb (number (step v d)) 10 e)
+agree-traces {v = v} (overflows {d = d} e) = rw (eq-eqb (numberGiven (step v d)) 10 e)
 agree-traces {v = v} (goes-on {d = d} same well rest) =
     let n = passes-well v d well in
     let later = agree-traces rest in
-    rw (ne-eqb (number (step v d)) 10 (λ e. omega arith)) (λ i. same i ∷ later i)
+    rw (ne-eqb (numberGiven (step v d)) 10 (λ e. omega arith)) (λ i. same i ∷ later i)
 
 -- and to the end, where none overflows
 agree-ends : {u v : World} {cs ds : List Call} → Agree u v cs ds → untilOverflow v ds ≡ length ds
     → (clean v ds ≡ true) × (trace v ds ≡ trace u cs)
 unfolding trace untilOverflow clean waits
 agree-ends (over i) n = (rw i, refl)
-agree-ends {v = v} (overflows {d = d} e) n = absurd (omega (arith, rw (eq-eqb (number (step v d)) 10 e) at n))
+agree-ends {v = v} (overflows {d = d} e) n = absurd (omega (arith, rw (eq-eqb (numberGiven (step v d)) 10 e) at n))
 agree-ends {v = v} (goes-on {d = d} same well rest) n =
     let m = passes-well v d well in
-    let more = rw (ne-eqb (number (step v d)) 10 (λ e. omega arith)) at n in
+    let more = rw (ne-eqb (numberGiven (step v d)) 10 (λ e. omega arith)) at n in
     let (c, later) = agree-ends rest (omega arith) in
     (rw (well, c), λ i. same i ∷ later i)
 

@@ -8,7 +8,7 @@ use mathlib.Core.Path.{_≡_, refl, sym, ap, _∙_}
 use mathlib.Mathlib.Data.Bool.Basic.{dichotomy}
 use lib.Dec.{eqb}
 use borrow.Author.Tests.{eqb-true, eq-eqb}
-use Rattle.demands.specs.Queue.{Reference, Event, Queue, extractMin, insert, delete, refersTo, noDearer, sooner, leastOf, has, takenOut, newEvent, withoutThis, next}
+use Rattle.demands.specs.Queue.{Reference, Event, Queue, extractMin, insert, delete, refersTo, noDearer, sooner, leastEvent, has, takenOut, newEvent, withoutThis, next}
 use Rattle.deals.proofs.LeavingLaws.{All}
 
 abbrev pub ref : ℕ → ℕ → Reference
@@ -37,10 +37,10 @@ module _ (f : ℕ → ℕ) where
   sooner-dress x (some y) =
       elim (noDearer x y) as (λ b. some (cond b (dress x) (dress y)) ≡ some (dress (cond b x y))) [ true ↦ refl | false ↦ refl ]
 
-  pub least-dress : (es : List Event) → leastOf (map dress es) ≡ Option·map dress (leastOf es)
-  unfolding leastOf
+  pub least-dress : (es : List Event) → leastEvent (map dress es) ≡ Option·map dress (leastEvent es)
+  unfolding leastEvent
   least-dress [] = refl
-  least-dress (x ∷ es) = ap (sooner (dress x)) (least-dress es) ∙ sooner-dress x (leastOf es)
+  least-dress (x ∷ es) = ap (sooner (dress x)) (least-dress es) ∙ sooner-dress x (leastEvent es)
 
   -- ---- by reference
   module _ (s : ℕ) where
@@ -76,14 +76,14 @@ module _ (f : ℕ → ℕ) where
     delete-dress s b = let e = out-dress s (p .events) b in λ i. record { events = e i; taken = suc (p .taken) }
 
     -- the least of them, and the queue without it
-    module _ (m : Event) (least : leastOf (p .events) ≡ some m) where
-      pub dressed-least : leastOf (dressed p .events) ≡ some (dress m)
+    module _ (m : Event) (least : leastEvent (p .events) ≡ some m) where
+      pub dressed-least : leastEvent (dressed p .events) ≡ some (dress m)
       dressed-least = least-dress (p .events) ∙ ap (λ (o : Option Event). Option·map dress o) least
 
       pub extract-dress : Bare m → All Bare (p .events) → next (dressed p) extractMin ≡ dressed (next p extractMin)
       extract-dress bare b =
           let own : ref 0 (m .ref .stamp) ≡ m .ref = λ i. record { label = sym bare i; stamp = m .ref .stamp } in
-          let e : withoutThis (dressed p) (leastOf (dressed p .events)) ≡ map dress (withoutThis p (leastOf (p .events))) =
+          let e : withoutThis (dressed p) (leastEvent (dressed p .events)) ≡ map dress (withoutThis p (leastEvent (p .events))) =
           ap (λ (o : Option Event). withoutThis (dressed p) o) dressed-least ∙ out-dress (m .ref .stamp) (p .events) b
           ∙ ap (λ (r : Reference). map dress (takenOut r (p .events))) own
           ∙ ap (λ (o : Option Event). map dress (withoutThis p o)) (sym least) in

@@ -13,7 +13,7 @@ use native.Mathlib.Omega.{arith}
 use lib.Dec.{eqb}
 use lib.ListN.{length, length-map}
 use borrow.Author.Tests.{eq-eqb, ne-eqb}
-use Rattle.demands.specs.Queue.{Reference, Event, Queue, Request, insert, findMin, extractMin, delete, nothing, refersTo, noDearer, sooner, leastOf, has, takenOut, next}
+use Rattle.demands.specs.Queue.{Reference, Event, Queue, Request, insert, findMin, extractMin, delete, nothing, refersTo, noDearer, sooner, leastEvent, has, takenOut, next}
 use Rattle.demands.proofs.SortedLaws.{refers-is, has-other, out-own, out-other, has-live}
 use Rattle.deals.specs.Dealing.{refs, leaving, paired}
 
@@ -118,10 +118,10 @@ sooner-some : (x : Event) (o : Option Event) → (m : Event) × (sooner x o ≡ 
 sooner-some x none = (x, refl)
 sooner-some x (some y) = (cond (noDearer x y) x y, refl)
 
-pub least-some : (es : List Event) → 0 < length es → (m : Event) × (leastOf es ≡ some m)
-unfolding leastOf
+pub least-some : (es : List Event) → 0 < length es → (m : Event) × (leastEvent es ≡ some m)
+unfolding leastEvent
 least-some [] h = absurd (omega arith)
-least-some (x ∷ es) h = sooner-some x (leastOf es)
+least-some (x ∷ es) h = sooner-some x (leastEvent es)
 
 sooner-in : (x m : Event) (es : List Event) (o : Option Event) → ((y : Event) → o ≡ some y → List·Memᴰ y es) → sooner x o ≡ some m
     → List·Memᴰ m (x ∷ es)
@@ -132,16 +132,16 @@ sooner-in x m es (some y) h e =
       | false ↦ λ p. let f : some y ≡ some m = p in List·Memᴰ·tail (h m f)
     ]) e
 
-pub least-in : (es : List Event) (m : Event) → leastOf es ≡ some m → List·Memᴰ m es
-unfolding leastOf
+pub least-in : (es : List Event) (m : Event) → leastEvent es ≡ some m → List·Memᴰ m es
+unfolding leastEvent
 least-in [] m e = absurd (let z : _≡_ {A = ℕ} 0 1 = cc in omega arith)
-least-in (x ∷ es) m e = sooner-in x m es (leastOf es) (λ y f. least-in es y f) e
+least-in (x ∷ es) m e = sooner-in x m es (leastEvent es) (λ y f. least-in es y f) e
 
 -- ---- what is taken out is there
 abbrev pub There : Queue → Request → Type 0
 There q (insert key value label) = Unit {0}
 There q findMin = Unit {0}
-There q extractMin = (m : Event) × (leastOf (q .events) ≡ some m)
+There q extractMin = (m : Event) × (leastEvent (q .events) ≡ some m)
 There q (delete r) = has r (q .events) ≡ true
 There q nothing = Unit {0}
 

@@ -13,8 +13,8 @@ use Rattle.record.specs.declared.Stamp.{Stamp}
 use Rattle.record.specs.Standing.{dummyKey}
 use Rattle.path.specs.declared.sizes.Sizes.{Sizes}
 use Rattle.path.specs.Sizes.{leavesOf}
-use Rattle.path.specs.declared.list.Listed.{Listed as Counts}
-use Rattle.path.specs.BucketList.{pairList, pathList, fetchedFor}
+use Rattle.lists.specs.declared.Listed.{Listed as Counts}
+use Rattle.lists.specs.BucketList.{pairList, pathList, fetchedFor}
 use Rattle.request.specs.declared.Waiting.{Waiting}
 use Rattle.request.specs.declared.Waiting.the-variants.{Insert, Extract, Delete}
 use Rattle.request.specs.Tables.{countsFor}
@@ -22,7 +22,7 @@ use Rattle.card.specs.Calls.{listOf}
 use Rattle.demands.specs.Queue.{Reference, Event, Queue, Request, has, withoutThis, extractMin, next, nothing, delete as remove}
 use Rattle.demands.specs.World.{World, Asked, insert, extract, delete, Call, begin, finish, findMin, step}
 use Rattle.demands.specs.Says.{refOf, eventOf, asks}
-use Rattle.deals.specs.Trace.{number}
+use Rattle.deals.specs.Trace.{numberGiven}
 use Rattle.deals.specs.Sequences.{leaf, requests, blanks, unlabelled, well, Fair}
 use Rattle.deals.specs.Dealing.{refIn, gone, leaving}
 use Rattle.deals.proofs.LeavingLaws.{All, all-append, all-in, There, out-all, has-one, least-in, stamps}
@@ -63,7 +63,7 @@ module _ (s : Sizes) (f : ℕ → ℕ) (below : (stamp : ℕ) → f stamp < leav
         idle-count v (dressed f p) (x .second) ∙ length-map (p .events) (dress f) ∙ sym (x .same-many) ∙ sym (idle-count u q i)
 
   -- FindMin on both
-  pub pair-look : {u v : World} {q p : Queue} {cs ds : List Call} → Pair u v q p (findMin ∷ cs) (findMin ∷ ds) → number (step v findMin) ≡ 0
+  pub pair-look : {u v : World} {q p : Queue} {cs ds : List Call} → Pair u v q p (findMin ∷ cs) (findMin ∷ ds) → numberGiven (step v findMin) ≡ 0
       → Pair (step u findMin .world) (step v findMin .world) q p cs ds
   unfolding leaving
   pair-look {u} {v} {q} {p} x n =
@@ -133,7 +133,7 @@ module _ (s : Sizes) (f : ℕ → ℕ) (below : (stamp : ℕ) → f stamp < leav
       → Pair u v q p (begin asked places ∷ finish words ∷ cs)
       (begin (insert {key = key′} {value = value′} {label = label′} {first = first} {second = second} word) places′ ∷ finish words′ ∷ ds)
       → Meets u v q p (Insert key′ value′ label′ first second) asked (labelledAs (f (p .taken)) key′ value′ first second word) places words places′ words′ cs ds
-      ⊎ (number (step v (begin (labelledAs (f (p .taken)) key′ value′ first second word) places′)) ≡ 10)
+      ⊎ (numberGiven (step v (begin (labelledAs (f (p .taken)) key′ value′ first second word) places′)) ≡ 10)
   unfolding leaving listOf countsFor
   insert-meets {u} {v} q p {key = key} {value} {key′} {value′} {label} {label′} {first} {second} {places′ = places′} {words′ = words′} word r fair x =
       let given = labelledAs (f (p .taken)) key′ value′ first second word in

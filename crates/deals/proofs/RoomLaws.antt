@@ -35,7 +35,7 @@ use Rattle.demands.specs.Says.{requestOf}
 use Rattle.demands.specs.Demand2.{Refuses, Answers}
 use Rattle.demands.proofs.StepLaws.{Holds}
 use Rattle.demands.proofs.Demand2.{plays, fresh-holds}
-use Rattle.deals.specs.Trace.{number, untilOverflow}
+use Rattle.deals.specs.Trace.{numberGiven, untilOverflow}
 use Rattle.deals.specs.Sequences.{labelled}
 use Rattle.deals.specs.Demand3.{NeverOverflows}
 use Rattle.deals.proofs.RoundLaws.{step-sizes}
@@ -128,7 +128,7 @@ finished-ten k Extract l e = omega arith
 finished-ten k (Delete label stamp) l e = omega arith
 
 module _ (u : World) (q : Queue) (h : Holds u q) (roomy : leavesOf (u .card .sizes .h) ≤ u .card .sizes .r) where
-  step-ten : (c : Call) → number (step u c) ≡ 10 → ⊥
+  step-ten : (c : Call) → numberGiven (step u c) ≡ 10 → ⊥
   unfolding step
   step-ten (begin {w} asked places) = answered-ten (u .card) _ _ (other-ten (begin-other u q h roomy w (length places))) (λ e. omega arith)
   step-ten (finish words) =
@@ -143,7 +143,7 @@ unfolding untilOverflow
 calm [] u q h roomy = refl
 calm (c ∷ cs) u q h roomy =
     let still = subst (λ (s : Sizes). leavesOf (s .h) ≤ s .r) (sym (step-sizes u c)) roomy in
-    rw (ne-eqb (number (step u c)) 10 (step-ten u q h roomy c))
+    rw (ne-eqb (numberGiven (step u c)) 10 (step-ten u q h roomy c))
     (ap suc (⊎-elim
     (λ (n : Refuses u (step u c)). calm cs (step u c .world) q (subst (λ (v : World). Holds v q) (sym (n .unchanged)) h) still)
     (λ (a : Answers q (requestOf u c) (step u c) × Holds (step u c .world) (next q (requestOf u c))).

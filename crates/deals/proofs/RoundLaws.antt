@@ -14,8 +14,8 @@ use Rattle.record.specs.Standing.{isProper}
 use Rattle.record.proofs.StandingLaws.{proper-true, known-below}
 use Rattle.record.proofs.ManyLaws.{every-each}
 use Rattle.path.specs.Sizes.{leavesOf}
-use Rattle.path.specs.declared.list.Listed.{Listed as Counts}
-use Rattle.path.specs.BucketList.{fetchedFor}
+use Rattle.lists.specs.declared.Listed.{Listed as Counts}
+use Rattle.lists.specs.BucketList.{fetchedFor}
 use Rattle.path.proofs.SizesLaws.{in-range}
 use Rattle.refusal.specs.Refusal.{firstGiven}
 use Rattle.refusal.proofs.RefusalLaws.{none-given}
@@ -37,14 +37,14 @@ use Rattle.card.specs.Calls.{listOf, beginTable, minTable, withWaiting}
 use Rattle.card.specs.Finish.{leftBy, finishedBy, finished, wordsNeeded}
 use Rattle.card.proofs.BeginLaws.{accepted, counts-for, request-refused, room-enough}
 use Rattle.served.proofs.CallLaws.{ready-card}
-use Rattle.demands.specs.Queue.{Event, Queue, Request, leastOf, next, reply}
+use Rattle.demands.specs.Queue.{Event, Queue, Request, leastEvent, next, reply}
 use Rattle.demands.specs.World.{World, Asked, insert, extract, delete, Call, begin, finish, withdraw, findMin, Outcome, held, finishNumber, shown, step}
 use Rattle.demands.specs.Says.{eventOf, asks, says}
 use Rattle.demands.proofs.AnswerLaws.{least-told}
 use Rattle.demands.proofs.StepLaws.{Holds}
 use Rattle.demands.proofs.Demand2.{plays, finishes}
 use Rattle.demands.proofs.JobLaws.{passed, waits-now}
-use Rattle.deals.specs.Trace.{noList, storedBack, number, seen, askedFor}
+use Rattle.deals.specs.Trace.{noList, storedBack, numberGiven, seen, askedFor}
 use Rattle.deals.specs.Sequences.{well}
 
 -- an answer that is well is no refusal
@@ -58,7 +58,7 @@ well-numbered (Extracted r words) e = refl
 well-numbered (Deleted found words) e = refl
 well-numbered (Refused n) e = absurd (true≢false (sym e))
 
-pub passes-well : (u : World) (c : Call) → well (step u c .answer) ≡ true → number (step u c) ≡ 0
+pub passes-well : (u : World) (c : Call) → well (step u c .answer) ≡ true → numberGiven (step u c) ≡ 0
 passes-well u c e = well-numbered (step u c .answer) e
 
 -- ---- no call changes the sizes
@@ -88,14 +88,14 @@ module _ (u : World) {w : Waiting} (asked : Asked w) (places : List ℕ) where
   abbrev n : ℕ
   n = firstGiven (beginTable (u .card) w (length places))
 
-  begin-number : number (step u (begin asked places)) ≡ n
+  begin-number : numberGiven (step u (begin asked places)) ≡ n
   unfolding step orRefused
   begin-number = elim (dichotomy (eqb n 0)) [
     | inl f ↦ rw f
     | inr t ↦ rw (t, eqb-true n 0 t)
   ]
 
-  module _ (e : number (step u (begin asked places)) ≡ 0) where
+  module _ (e : numberGiven (step u (begin asked places)) ≡ 0) where
     passes : eqb n 0 ≡ true
     passes = eq-eqb n 0 (sym begin-number ∙ e)
 
@@ -124,7 +124,7 @@ finished-idle k (Insert key value label first second) l e = refl
 finished-idle k Extract l e = refl
 finished-idle k (Delete label stamp) l e = refl
 
-module _ (v : World) (words : List ℕ) (e : number (step v (finish words)) ≡ 0) where
+module _ (v : World) (words : List ℕ) (e : numberGiven (step v (finish words)) ≡ 0) where
   finish-seen : seen v (finish words) ≡ storedBack (held v)
   unfolding seen
   finish-seen = rw e
@@ -158,9 +158,9 @@ module _ (u : World) (q : Queue) (i : Idle u q) where
       ∙ ap (λ (es : List Event). length es) (i .holds .stands .events)
 
   -- the root's least record is the queue's least
-  pub idle-least : 1 ≤ u .card .c → leastOf (q .events) ≡ some (eventOf (u .card .least))
+  pub idle-least : 1 ≤ u .card .c → leastEvent (q .events) ≡ some (eventOf (u .card .least))
   idle-least some-live =
-      ap leastOf (sym (i .holds .stands .events))
+      ap leastEvent (sym (i .holds .stands .events))
       ∙ least-told (u .card) (u .tree) (i .holds .stands .live) (i .holds .stands .ready) some-live
 
   -- live events have stamps below the count of finished requests
@@ -175,7 +175,7 @@ module _ (u : World) (q : Queue) (i : Idle u q) where
   -- a begin with room for its list is refused for its request alone
   pub idle-begin : {w : Waiting} (asked : Asked w) (places : List ℕ)
       → countsFor (u .card .sizes .h) w .whole + countsFor (u .card .sizes .h) w .least ≤ length places
-      → number (step u (begin asked places)) ≡ firstGiven (requestTable (u .card) w)
+      → numberGiven (step u (begin asked places)) ≡ firstGiven (requestTable (u .card) w)
   idle-begin {w} asked places room =
       let m = firstGiven (requestTable (u .card) w) in
       begin-number u asked places ∙ elim (dichotomy (eqb m 0)) [
@@ -188,7 +188,7 @@ module _ (u : World) where
   abbrev m : ℕ
   m = firstGiven (minTable (u .card))
 
-  look-number : number (step u findMin) ≡ m
+  look-number : numberGiven (step u findMin) ≡ m
   unfolding step orRefused
   look-number = elim (dichotomy (eqb m 0)) [
     | inl f ↦ rw f
@@ -202,7 +202,7 @@ module _ (u : World) where
     | inr t ↦ rw t
   ]
 
-  pub look-well : number (step u findMin) ≡ 0 → well (step u findMin .answer) ≡ true
+  pub look-well : numberGiven (step u findMin) ≡ 0 → well (step u findMin .answer) ≡ true
   unfolding step orRefused
   look-well e = rw (eq-eqb m 0 (sym look-number ∙ e))
 
@@ -211,7 +211,7 @@ module _ (u : World) where
   look-seen = refl
 
   -- "it checks 13, 2 and 8 only"
-  pub look-some : number (step u findMin) ≡ 0 → u .card .c ≡ 0 → ⊥
+  pub look-some : numberGiven (step u findMin) ≡ 0 → u .card .c ≡ 0 → ⊥
   unfolding minTable
   look-some e =
       let a = none-given 13 (badCard (u .card)) _ (omega arith) (sym look-number ∙ e) in
@@ -220,11 +220,11 @@ module _ (u : World) where
       eqb-false (u .card .c) 0 (d .0)
 
   module _ (q : Queue) (i : Idle u q) where
-    pub look-passes : (u .card .c ≡ 0 → ⊥) → number (step u findMin) ≡ 0
+    pub look-passes : (u .card .c ≡ 0 → ⊥) → numberGiven (step u findMin) ≡ 0
     unfolding minTable firstGiven
     look-passes h = look-number ∙ rw (idle-fine u q i, idle-waits u q i, ne-eqb (u .card .c) 0 h)
 
-    pub look-idle : number (step u findMin) ≡ 0 → Idle (step u findMin .world) q
+    pub look-idle : numberGiven (step u findMin) ≡ 0 → Idle (step u findMin .world) q
     look-idle e =
         record {
           holds = passed (plays u q (i .holds) findMin) e .1;
@@ -250,7 +250,7 @@ module _ (u : World) (q : Queue) {w : Waiting} (asked : Asked w) (places words :
     -- neither is refused
     pub request : firstGiven (requestTable (u .card) w) ≡ 0
     pub begins : well (step u (begin asked places) .answer) ≡ true
-    pub numbered : number done ≡ 0
+    pub numbered : numberGiven done ≡ 0
     -- what the rack sees
     pub first : seen u (begin asked places) ≡ askedFor (listOf (u .card) w)
     pub second : seen begun (finish words) ≡ storedBack (listOf (u .card) w)
@@ -259,14 +259,14 @@ module _ (u : World) (q : Queue) {w : Waiting} (asked : Asked w) (places words :
     pub after : Idle (done .world) (next q (asks w))
     pub sizes : done .world .card .sizes ≡ u .card .sizes
 
-  module _ (i : Idle u q) (b : number (step u (begin asked places)) ≡ 0) where
+  module _ (i : Idle u q) (b : numberGiven (step u (begin asked places)) ≡ 0) where
     abbrev begun-holds : Holds begun q
     begun-holds = passed (plays u q (i .holds) (begin asked places)) b .1
 
     now-waits : begun .card .waiting ≡ w
     now-waits = waits-now u asked places b
 
-    pub round : number done ≡ 0 → Round
+    pub round : numberGiven done ≡ 0 → Round
     round f =
         let answered = passed (plays begun q begun-holds (finish words)) f in
         let is : asks (begun .card .waiting) ≡ asks w = ap asks now-waits in

@@ -11,23 +11,25 @@ use Rattle.record.specs.Order.{noLater, smallerBy, smallestBy}
 use Rattle.record.specs.Standing.{dummyKey, same, isDummy, known, isProper, mayStand}
 use Rattle.record.specs.Words.{records, wordsOf}
 use Rattle.path.specs.declared.sizes.Sizes.{Sizes}
-use Rattle.path.specs.BucketList.{pairList, pathList, sum, wordsMoved}
+use Rattle.lists.specs.BucketList.{pairList, pathList, sum, wordsMoved}
 use Rattle.path.specs.Path.{number, pathBucket, holds, siblingOf, upFrom, path}
 use Rattle.path.specs.Sizes.{sizesOf, between, treeIn, inRange}
 use Rattle.refusal.specs.Refusal.{firstGiven}
 use Rattle.root.specs.Root.{strangeSlot, usedPast, stampShared, rootRecords, greaterThanSome, rootFull}
 use Rattle.judge.specs.BadParts.{oddLeast, badParts}
 use Rattle.way.specs.Evict.{seek, fits, movedTo, pull, pulls, evictUp, evict}
-use Rattle.way.specs.Least.{slotsAt, inOrder, kids}
-use Rattle.gather.specs.Removal.{named, found, removed}
+use Rattle.least.specs.Least.{slotsAt, inOrder, kids}
+use Rattle.clearing.specs.Removal.{named, found, removed}
 use Rattle.gather.specs.Shown.{wholeAt, siblingAt, siblingsShown, slotsShown, wayShown}
 use Rattle.mend.specs.Mended.{pathWords}
-use Rattle.work.specs.Work.{pathBuckets, rootAfter, leastAfter, seated}
-use Rattle.damage.specs.Damage.{sound, pathSound, siblingsSound, kidsShown, leastsTrue}
+use Rattle.work.specs.PathWork.{pathBuckets, rootAfter, leastAfter}
+use Rattle.pair.specs.PairWork.{seated}
+use Rattle.sound.specs.Sound.{sound, pathSound, siblingsSound}
+use Rattle.truth.specs.Leasts.{kidsShown, leastsTrue}
 use Rattle.damage.specs.Damaged.{pathDamaged, pairDamaged}
 use Rattle.settle.specs.Left.{removal, insertion, removalDamaged, insertionDamaged}
 use Rattle.rack.specs.Answers.{anyOutside}
-use Rattle.rack.specs.Copy.{stored}
+use Rattle.copies.specs.Copy.{stored}
 use Rattle.request.specs.declared.Waiting.{Waiting}
 use Rattle.card.specs.Answers.{orRefused, valuesOf}
 use Rattle.card.specs.BadCard.{badCard}
@@ -35,7 +37,7 @@ use Rattle.request.specs.Tables.{countsFor}
 use Rattle.card.specs.Calls.{listOf, beginTable, minTable}
 use Rattle.card.specs.Finish.{leftBy, damagedBy, entryTable, finishedBy}
 use Rattle.request.specs.Tables.{insertRows, extractRows, deleteRows, requestRows, waits}
-use Rattle.demands.specs.Queue.{Queue, leastOf, has, takenOut, next}
+use Rattle.demands.specs.Queue.{Queue, leastEvent, has, takenOut, next}
 use Rattle.demands.specs.World.{freshWorld, Asked, insert, extract, delete, Call, begin, finish, findMin, Outcome, step, outcomes}
 use Rattle.demands.specs.Says.{asks as wants}
 use Rattle.deals.specs.Trace.{Seen, seen, trace, untilOverflow}
@@ -174,7 +176,7 @@ unfolding every reals bears stampTwice noLater smallerBy smallestBy same isDummy
     pathWords pathBuckets rootAfter leastAfter seated sound pathSound siblingsSound kidsShown leastsTrue pathDamaged
     pairDamaged removal insertion removalDamaged insertionDamaged anyOutside stored orRefused badCard listOf
     beginTable minTable countsFor leftBy damagedBy entryTable finishedBy insertRows extractRows deleteRows
-    requestRows waits step outcomes flatMap seen trace untilOverflow deal paired leaving leastOf has takenOut labels labelled clean
+    requestRows waits step outcomes flatMap seen trace untilOverflow deal paired leaving leastEvent has takenOut labels labelled clean
 worked =
     let key : (n : ℕ) → n ≤ 7 → n < dummyKey = λ n h. omega arith in (
       record {

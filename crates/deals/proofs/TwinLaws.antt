@@ -1,9 +1,9 @@
 -- Two sequences of the same kinds, request by request: the first is taken apart along the second, and what each takes out of its
 -- plain queue is there. Assumes nothing.
 use Prim.Native.Nat.{ℕ}
-use mathlib.Core.Bool.{Bool, true, false, true≢false, _&&_}
+use mathlib.Core.Bool.{true, and-eq-true-iff as both}
 use mathlib.Core.List.{List, [], _∷_, map, head-eq-of-cons-eq, tail-eq-of-cons-eq}
-use mathlib.Core.Path.{_≡_, refl, sym, ap, subst}
+use mathlib.Core.Path.{_≡_, sym, ap, subst}
 use native.Mathlib.Omega.{arith}
 use lib.ListN.{length}
 use Rattle.record.specs.declared.Leaf.{Leaf}
@@ -14,7 +14,7 @@ use Rattle.request.specs.declared.Waiting.the-variants.{Insert, Extract, Delete
 use Rattle.demands.specs.Queue.{Queue, next}
 use Rattle.demands.specs.World.{World, Asked, insert, extract, delete, Call, begin, finish, withdraw, findMin, step}
 use Rattle.demands.specs.Says.{asks}
-use Rattle.deals.specs.Trace.{number}
+use Rattle.deals.specs.Trace.{numberGiven}
 use Rattle.deals.specs.Sequences.{Kind, inserts, extracts, deletes, finishes, withdraws, looks, kindAsked, kindOf, well, clean, unlabelled, Fair, Valid, none, look, request}
 use Rattle.deals.proofs.RoundLaws.{passes-well, Idle, begunBy, doneBy, Round, round, look-idle}
 
@@ -63,7 +63,7 @@ begins-one (delete {label} {stamp}) c e = shaped deletes c e label stamp
 -- ---- two sequences side by side: the world and the plain queue of the first, the plain queue of the second without labels
 pub data Twin (s : Sizes) : World → Queue → Queue → List Call → List Call → Type 0 where
   ended : {u : World} {q p : Queue} → Idle u q → Twin s u q p [] []
-  looked : {u : World} {q p : Queue} {cs ds : List Call} → Idle u q → number (step u findMin) ≡ 0
+  looked : {u : World} {q p : Queue} {cs ds : List Call} → Idle u q → numberGiven (step u findMin) ≡ 0
       → Twin s (step u findMin .world) q p cs ds → Twin s u q p (findMin ∷ cs) (findMin ∷ ds)
   taken : {u : World} {q p : Queue} {w x : Waiting} {asked : Asked w} {asked′ : Asked x} {places words places′ words′ : List ℕ}
       {cs ds : List Call} → OneKind w x → Round u q asked places words → well (doneBy u asked places words .answer) ≡ true
@@ -71,21 +71,17 @@ pub data Twin (s : Sizes) : World → Queue → Queue → List Call → List Cal
       → Twin s (doneBy u asked places words .world) (next q (asks w)) (next p (unlabelled (asks x))) cs ds
       → Twin s u q p (begin asked places ∷ finish words ∷ cs) (begin asked′ places′ ∷ finish words′ ∷ ds)
 
-both-true : (a b : Bool) → (a && b) ≡ true → (a ≡ true) × (b ≡ true)
-both-true true b e = (refl, e)
-both-true false b e = absurd (true≢false (sym e))
-
 none-some : {A : Type 0} {x : Kind} {xs : List Kind} → [] ≡ x ∷ xs → A
 none-some {A} {x} {xs} e = absurd (omega (arith, ap length e))
 
 module _ (u : World) (c : Call) (cs : List Call) (k : clean u (c ∷ cs) ≡ true) where
   clean-here : well (step u c .answer) ≡ true
   unfolding clean
-  clean-here = both-true (well (step u c .answer)) (clean (step u c .world) cs) k .0
+  clean-here = both (well (step u c .answer)) (clean (step u c .world) cs) .0 k .0
 
   clean-later : clean (step u c .world) cs ≡ true
   unfolding clean
-  clean-later = both-true (well (step u c .answer)) (clean (step u c .world) cs) k .1
+  clean-later = both (well (step u c .answer)) (clean (step u c .world) cs) .0 k .1
 
 module _ (s : Sizes) where
   twin-look : {c : Call} {u : World} {q p : Queue} {cs ds : List Call} → Looks c → Idle u q → clean u (c ∷ cs) ≡ true

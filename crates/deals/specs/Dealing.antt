@@ -5,7 +5,7 @@ use mathlib.Core.Bool.{cond}
 use mathlib.Core.List.{List, [], _∷_, _++_, map}
 use mathlib.Core.Option.{Option, none, some}
 use lib.Dec.{eqb}
-use Rattle.demands.specs.Queue.{Reference, Event, Queue, Request, insert, findMin, extractMin, delete, nothing, emptyQueue, leastOf, next}
+use Rattle.demands.specs.Queue.{Reference, Event, Queue, Request, insert, findMin, extractMin, delete, nothing, emptyQueue, leastEvent, next}
 use Rattle.demands.specs.World.{Call}
 use Rattle.deals.specs.Sequences.{requests, blanks, labelled}
 
@@ -17,7 +17,7 @@ refIn (some e) = e .ref ∷ []
 abbrev pub gone : Queue → Request → List Reference
 gone q (insert key value label) = []
 gone q findMin = []
-gone q extractMin = refIn (leastOf (q .events))
+gone q extractMin = refIn (leastEvent (q .events))
 gone q (delete r) = r ∷ []
 gone q nothing = []
 

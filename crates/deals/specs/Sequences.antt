@@ -7,7 +7,7 @@ use lib.ListN.{length}
 use Rattle.record.specs.declared.Leaf.{Leaf}
 use Rattle.record.specs.Standing.{dummyKey}
 use Rattle.path.specs.declared.sizes.Sizes.{Sizes}
-use Rattle.path.specs.BucketList.{fetchedFor}
+use Rattle.lists.specs.BucketList.{fetchedFor}
 use Rattle.request.specs.declared.Waiting.{Waiting}
 use Rattle.card.specs.declared.Answer.{Answer}
 use Rattle.card.specs.declared.Answer.the-variants.{Started, Listed, Least, Withdrawn, Inserted, Extracted, Deleted, Refused}

@@ -5,7 +5,7 @@ use mathlib.Core.Bool.{cond}
 use mathlib.Core.List.{List, [], _∷_}
 use lib.Dec.{eqb}
 use Rattle.record.specs.declared.Bucket.{Bucket}
-use Rattle.path.specs.BucketList.{BucketList}
+use Rattle.lists.specs.BucketList.{BucketList}
 use Rattle.card.specs.Answers.{numberOf}
 use Rattle.demands.specs.World.{World, Call, begin, finish, withdraw, findMin, Outcome, held, unless, step}
 
@@ -25,13 +25,13 @@ askedFor l = record { asked = l; stored = [] }
 abbrev pub storedBack : BucketList → Seen
 storedBack l = record { asked = noList; stored = l .whole }
 
-abbrev pub number : Outcome → ℕ
-number o = numberOf (o .answer)
+abbrev pub numberGiven : Outcome → ℕ
+numberGiven o = numberOf (o .answer)
 
 -- a call that is refused shows nothing, and "FindMin answers .. with an empty list"
 unfoldable pub seen : World → Call → Seen
-seen u (begin asked places) = askedFor (unless (number (step u (begin asked places))) (held (step u (begin asked places) .world)) noList)
-seen u (finish words) = storedBack (unless (number (step u (finish words))) (held u) noList)
+seen u (begin asked places) = askedFor (unless (numberGiven (step u (begin asked places))) (held (step u (begin asked places) .world)) noList)
+seen u (finish words) = storedBack (unless (numberGiven (step u (finish words))) (held u) noList)
 seen u withdraw = askedFor noList
 seen u findMin = askedFor noList
 
@@ -43,4 +43,4 @@ trace u (c ∷ cs) = seen u c ∷ trace (step u c .world) cs
 -- how many calls there are before the first Overflow
 unfoldable pub untilOverflow : World → List Call → ℕ
 untilOverflow u [] = 0
-untilOverflow u (c ∷ cs) = cond (eqb (number (step u c)) 10) 0 (suc (untilOverflow (step u c .world) cs))
+untilOverflow u (c ∷ cs) = cond (eqb (numberGiven (step u c)) 10) 0 (suc (untilOverflow (step u c .world) cs))

@@ -1,7 +1,7 @@
 -- Reading and printing belong together: what is printed is read as the number, and a field that is read is what is printed
 -- for its number. So a number has exactly one field. Assumes nothing.
 use Prim.Native.Nat.{ℕ, zero, suc, _+_, _*_, _-_, _/_, _%_, _^_, _≤_, _<_}
-use mathlib.Core.Bool.{true, false, and-false, and-true}
+use mathlib.Core.Bool.{true, false, and-false, and-true, and-eq-true-iff as both}
 use mathlib.Core.List.{List, [], _∷_}
 use mathlib.Core.Path.{_≡_, refl, sym}
 use native.Mathlib.Omega.{arith}
@@ -12,7 +12,7 @@ use borrow.Author.Tests.{ltb-true, ltb-false, lt-ltb, eqb-false, ne-eqb, not-tru
 use Rattle.decimal.specs.declared.Reading.the-variants.{Number}
 use Rattle.decimal.specs.Digits.{digits, widthOf, decimal, valueFrom, value}
 use Rattle.decimal.specs.Field.{allDigits, leadingZero, isNumber, reads}
-use Rattle.decimal.proofs.ValueLaws.{both, is-digit, ten-pos, ten-next, value-digits, digits-value, value-front}
+use Rattle.decimal.proofs.ValueLaws.{is-digit, ten-pos, ten-next, value-digits, digits-value, value-front}
 use Rattle.decimal.proofs.FieldLaws.{digit-passes}
 use Rattle.decimal.proofs.WidthLaws.{Fewest, width-is, width-fewest}
 use Rattle.decimal.proofs.PrintLaws.{digits-length}
@@ -65,9 +65,9 @@ pub record Plain (field : List ℕ) : Type 0 where
 pub number-plain : (field : List ℕ) → isNumber field ≡ true → Plain field
 unfolding isNumber
 number-plain field e =
-    let (e₃, s) = both _ _ e in
-    let (e₂, a) = both _ _ e₃ in
-    let (e₁, z) = both _ _ e₂ in
+    let (e₃, s) = both _ _ .0 e in
+    let (e₂, a) = both _ _ .0 e₃ in
+    let (e₁, z) = both _ _ .0 e₂ in
     record {
       some = eqb-false (length field) 0 (not-true _ e₁);
       lead = not-true _ z;
@@ -86,7 +86,7 @@ wanted : (field : List ℕ) → Plain field → 1 < length field → 10 ^ (lengt
 unfolding valueFrom allDigits
 wanted [] p l = omega arith
 wanted (b ∷ bs) p l =
-    let (d, ds) = both _ _ (p .all) in
+    let (d, ds) = both _ _ .0 (p .all) in
     let (low, high) = is-digit b d in
     let lead : eqb b 48 ≡ false = (rw (lt-ltb 1 (suc (length bs)) l, and-true) at (p .lead)) in
     let first = 0 * 10 + (b - 48) in

@@ -1,6 +1,6 @@
 -- What digits stand for, and the digits of what they stand for. Assumes nothing.
 use Prim.Native.Nat.{ℕ, zero, suc, _+_, _*_, _-_, _/_, _%_, _^_, _≤_, _<_}
-use mathlib.Core.Bool.{Bool, true, false, _&&_, true≢false}
+use mathlib.Core.Bool.{true, and-eq-true-iff as both}
 use mathlib.Core.List.{List, [], _∷_}
 use mathlib.Core.Path.{_≡_, refl, sym, ap, _∙_}
 use native.Mathlib.Omega.{arith}
@@ -11,13 +11,9 @@ use Rattle.decimal.specs.Digits.{digits, valueFrom, value}
 use Rattle.decimal.specs.Field.{isDigit, allDigits}
 
 -- ---- tests
-pub both : (s t : Bool) → (s && t) ≡ true → (s ≡ true) × (t ≡ true)
-both true t e = (refl, e)
-both false t e = absurd (true≢false (sym e))
-
 pub is-digit : (b : ℕ) → isDigit b ≡ true → (48 ≤ b) × (b ≤ 57)
 is-digit b e =
-    let (l, m) = both _ _ e in
+    let (l, m) = both _ _ .0 e in
     (leb-true 48 b l, leb-true b 57 m)
 
 -- ---- powers of ten
@@ -56,7 +52,7 @@ bounds : (v : ℕ) (bs : List ℕ) → allDigits bs ≡ true → Bounds v bs
 unfolding valueFrom allDigits
 bounds v [] e = record { least = omega arith; most = omega arith }
 bounds v (b ∷ bs) e =
-    let (d, ds) = both _ _ e in
+    let (d, ds) = both _ _ .0 e in
     let (l, m) = is-digit b d in
     let w = v * 10 + (b - 48) in
     let r = bounds w bs ds in
@@ -76,7 +72,7 @@ pub digits-value : (v : ℕ) (bs : List ℕ) → allDigits bs ≡ true → digit
 unfolding valueFrom allDigits digits
 digits-value v [] e = refl
 digits-value v (b ∷ bs) e =
-    let (d, ds) = both _ _ e in
+    let (d, ds) = both _ _ .0 e in
     let (l, m) = is-digit b d in
     let head : 48 + (v * 10 + (b - 48)) % 10 ≡ b = omega arith in
     rw (value-front (v * 10 + (b - 48)) bs ds, digits-value (v * 10 + (b - 48)) bs ds, head)

@@ -10,13 +10,12 @@ use Rattle.record.specs.declared.Stamp.{Stamp}
 use Rattle.record.specs.declared.Record.{Record}
 use Rattle.record.specs.Standing.{isDummy, isProper}
 use Rattle.record.specs.Order.{smallest}
-use Rattle.record.proofs.StandingLaws.{proper-not-dummy}
 use Rattle.record.proofs.ManyLaws.{every-each}
 use Rattle.path.specs.Sizes.{leavesOf}
-use Rattle.gather.specs.Removal.{named, found}
-use Rattle.gather.proofs.RemovalLaws.{member-found}
+use Rattle.clearing.specs.Removal.{named, found}
+use Rattle.clearing.proofs.RemovalLaws.{member-found}
 use Rattle.judge.specs.BadParts.{stampOf}
-use Rattle.rack.specs.Copy.{fetched}
+use Rattle.copies.specs.Copy.{fetched}
 use Rattle.card.specs.declared.Card.{Card}
 use Rattle.request.specs.declared.Waiting.{Waiting}
 use Rattle.request.specs.declared.Waiting.the-variants.{Nothing, Insert, Extract, Delete}
@@ -29,11 +28,13 @@ use Rattle.card.proofs.BeginLaws.{extractable}
 use Rattle.good.specs.Live.{without, Ascending}
 use Rattle.good.proofs.PickLaws.{is-named}
 use Rattle.good.proofs.FewLaws.{least-live}
+use Rattle.good.proofs.LowLaws.{live-real}
 use Rattle.served.specs.Ready.{Ready}
 use Rattle.served.specs.LiveAfter.{liveAfter}
 use Rattle.served.proofs.CallLaws.{ready-least}
 use Rattle.served.proofs.FinishLaws.{delete-found}
-use Rattle.demands.specs.Queue.{Queue, leastOf, withoutThis, next, reply, told, wasFound}
+use Rattle.served.proofs.FinishedLaws.{finished-card}
+use Rattle.demands.specs.Queue.{Queue, leastEvent, withoutThis, next, reply, told, wasFound}
 use Rattle.demands.specs.Says.{eventOf, asks, says}
 use Rattle.demands.proofs.QueueLaws.{least-smallest, has-found, taken-out}
 
@@ -42,7 +43,7 @@ abbrev pub queueOf : List Record → ℕ → Queue
 queueOf live t = record { events = map eventOf live; taken = t }
 
 least-of : (leaves : ℕ) (next : Stamp) (live : List Record) → ((y : Record) → List·Memᴰ y live → isProper leaves next y ≡ true)
-    → Ascending live → (m : Record) → List·Memᴰ m live → leastOf (map eventOf live) ≡ some (eventOf (smallest live))
+    → Ascending live → (m : Record) → List·Memᴰ m live → leastEvent (map eventOf live) ≡ some (eventOf (smallest live))
 least-of leaves next [] k a m i = absurd (List·Memᴰ·not-nil i)
 least-of leaves next (x ∷ xs) k a m i = least-smallest leaves next x xs k a
 
@@ -51,14 +52,14 @@ module _ (k : Card) (tree : List ℕ) (live : List Record) (r : Ready k tree liv
   known y i = every-each (isProper (leavesOf (k .sizes .h)) (stampOf (k .t))) (r .heap .good .proper) i
 
   real : (y : Record) → List·Memᴰ y live → isDummy y ≡ false
-  real y i = proper-not-dummy (leavesOf (k .sizes .h)) (stampOf (k .t)) y (known y i)
+  real = live-real (k .sizes) (stampOf (k .t)) _ live (r .heap .good)
 
   module _ (some-live : 1 ≤ k .c) where
     in-live : List·Memᴰ (k .least) live
     in-live = least-live (k .sizes) (k .t) (k .c) (k .root) (k .least) tree live (r .heap) some-live
 
     -- the root's least record is the first of the least keys
-    pub least-told : leastOf (map eventOf live) ≡ some (eventOf (k .least))
+    pub least-told : leastEvent (map eventOf live) ≡ some (eventOf (k .least))
     least-told =
         rw (ready-least k tree live r) (least-of (leavesOf (k .sizes .h)) (stampOf (k .t)) live known (r .heap .order) (k .least) in-live)
 
@@ -68,7 +69,7 @@ module _ (k : Card) (tree : List ℕ) (live : List Record) (r : Ready k tree liv
         (is-named (k .least .label) (k .least .stamp) (k .least) (real (k .least) in-live) refl refl)
 
     -- and without it the queue goes on
-    least-goes : withoutThis (queueOf live (k .t)) (leastOf (map eventOf live)) ≡ map eventOf (without (k .least .stamp) live)
+    least-goes : withoutThis (queueOf live (k .t)) (leastEvent (map eventOf live)) ≡ map eventOf (without (k .least .stamp) live)
     least-goes =
         rw (least-told, taken-out (k .least .label) (k .least .stamp) live real (r .heap .order), least-found)
 
@@ -110,13 +111,6 @@ module _ (k : Card) (tree : List ℕ) (live : List Record) (r : Ready k tree liv
     done-so Extract busy = refl
     done-so (Delete label stamp) busy = refl
 
-    left-so : (w : Waiting) → waits w ≡ true → finishedBy k w (leftBy k w (shown w)) .card ≡ cardLeft k (leftBy k w (shown w))
-    unfolding waits finishedBy
-    left-so Nothing busy = absurd (true≢false (sym busy))
-    left-so (Insert key value label first second) busy = refl
-    left-so Extract busy = refl
-    left-so (Delete label stamp) busy = refl
-
     module _ (busy : waits (k .waiting) ≡ true) where
       abbrev out : Done
       out = finished k (shown (k .waiting))
@@ -129,7 +123,7 @@ module _ (k : Card) (tree : List ℕ) (live : List Record) (r : Ready k tree liv
       finish-numbered = done-so (k .waiting) busy
 
       pub finish-card : out .card ≡ cardLeft k (leftBy k (k .waiting) (shown (k .waiting)))
-      finish-card = left-so (k .waiting) busy
+      finish-card = finished-card k (k .waiting) _ busy
 
   -- the queue's events and count after it
   pub next-events : map eventOf (liveAfter (k .t) live (k .waiting)) ≡ next (queueOf live (k .t)) (asks (k .waiting)) .events

@@ -1,6 +1,6 @@
 -- A finish on a world that stands, with the rack's fetch before it and its store after it. Assumes nothing.
 use Prim.Native.Nat.{ℕ, _+_, _≤_, _<_}
-use mathlib.Core.Bool.{true, false, and-eq-true-iff}
+use mathlib.Core.Bool.{true, false}
 use mathlib.Core.List.{List, [], _++_}
 use mathlib.Core.Logic.{_⊎_, inl, inr}
 use mathlib.Core.Path.{_≡_, refl, sym, ap, _∙_, subst}
@@ -10,12 +10,12 @@ use lib.Dec.{ltb}
 use lib.ListN.{length, drop, length-append, length-map}
 use borrow.Author.Tests.{ltb-true, ltb-false, lt-ltb, ne-eqb}
 use Rattle.record.specs.declared.Record.{Record}
-use Rattle.path.specs.Sizes.{treeIn, inRange}
 use Rattle.path.specs.Path.{number}
-use Rattle.path.specs.BucketList.{BucketList, numbers, laid}
+use Rattle.path.proofs.SizesLaws.{tree-range}
+use Rattle.lists.specs.BucketList.{BucketList, numbers, laid}
 use Rattle.refusal.specs.Refusal.{firstGiven}
 use Rattle.settle.specs.Left.{Left, wordsLeft}
-use Rattle.rack.specs.Copy.{fetched, stored}
+use Rattle.copies.specs.Copy.{fetched, stored}
 use Rattle.rack.proofs.ListedLaws.{listed-laid, laid-passes}
 use Rattle.rack.proofs.RefusalLaws.{refuses-words}
 use Rattle.card.specs.declared.Card.{Card}
@@ -51,20 +51,16 @@ module _ (k : Card) (tree places : List ℕ) (live : List Record) (r : Ready k t
   abbrev q : Queue
   q = queueOf live (k .t)
 
-  tree-range : treeIn (k .sizes .h) (k .sizes .z) ≡ true
-  unfolding inRange
-  tree-range = and-eq-true-iff (treeIn (k .sizes .h) (k .sizes .z)) _ .0 (r .heap .sizes) .0
-
   -- ---- the rack's number for the list that begin laid
   rack-passes : (ws : List ℕ) → wordsNeeded k ≤ length ws → rackNumber u ws ≡ 0
   rack-passes ws room =
-      laid-passes l places (k .sizes .h) (k .sizes .z) (length tree) (length ws) tree-range (r .heap .words)
+      laid-passes l places (k .sizes .h) (k .sizes .z) (length tree) (length ws) (tree-range (k .sizes) (r .heap .sizes)) (r .heap .words)
       (list-inside k tree live r (k .waiting) (r .waiting)) room
 
   rack-short : (ws : List ℕ) → length ws < wordsNeeded k → rackNumber u ws ≡ 11
   rack-short ws few =
       let covered = length-map (l .whole ++ l .least) number ∙ length-append (l .whole) (l .least) in
-      sym (refuses-words (record { sizes = tree-range; whole-tree = r .heap .words }) (laid l places) (length (l .whole)) (length (l .least)) (length ws)
+      sym (refuses-words (record { sizes = tree-range (k .sizes) (r .heap .sizes); whole-tree = r .heap .words }) (laid l places) (length (l .whole)) (length (l .least)) (length ws)
       (omega (arith, length-append (numbers l) (drop (length (numbers l)) places), covered)) (lt-ltb _ _ few))
 
   fetch-number : (ws : List ℕ) → (rackNumber u ws ≡ 0) ⊎ ((rackNumber u ws ≡ 11) × (length ws < wordsNeeded k))

@@ -23,7 +23,7 @@ use Rattle.demands.specs.World.{World, freshWorld, Asked, Call, begin, f
 use Rattle.demands.specs.Says.{asks, says, requestOf}
 use Rattle.demands.specs.Demand2.{Refuses, Answers}
 use Rattle.demands.specs.Sorted.{sorted, placed, extracts, Distinct, none as alone, more as apart}
-use Rattle.demands.specs.Jobs.{Job, job, Passes, none, more, answers, wanted, replies, Input, put, made, eventsFrom}
+use Rattle.demands.specs.Jobs.{Job, job, Passes, none, more, answers, wanted, replies, Input, insertOf, made, eventsFrom}
 use Rattle.demands.proofs.StepLaws.{Holds, Plays}
 use Rattle.demands.proofs.Demand2.{plays, fresh-holds}
 use Rattle.demands.proofs.SortedLaws.{extracts-sorted}
@@ -79,7 +79,7 @@ replies-extracts zero q = refl
 replies-extracts (suc n) q = ap (λ (xs : List Reply). reply q extractMin ∷ xs) (replies-extracts n (next q extractMin))
 
 events-put : (is : List Input) (es : List Event) (t : ℕ)
-    → nexts (record { events = es; taken = t }) (map put is) .events ≡ es ++ eventsFrom t is
+    → nexts (record { events = es; taken = t }) (map insertOf is) .events ≡ es ++ eventsFrom t is
 unfolding eventsFrom
 events-put [] es t = sym (append-nil es)
 events-put (i ∷ is) es t = events-put is _ (suc t) ∙ append-assoc es _ (eventsFrom (suc t) is)
@@ -118,17 +118,17 @@ sorted-many (x ∷ es) = placed-many x (sorted es) ∙ ap suc (sorted-many es)
 -- "insert each element sequentially .. and .. call ExtractMin() a total of m times": the answers are the events by key, then by
 -- insertion, for every run of which no request is refused
 pub sorts : (s : Sizes) → inRange s ≡ true → (js : List Job) (is : List Input)
-    → map wanted js ≡ map put is ++ replicate (length is) extractMin → Passes (freshWorld s) js
+    → map wanted js ≡ map insertOf is ++ replicate (length is) extractMin → Passes (freshWorld s) js
     → drop (length is) (answers (freshWorld s) js) ≡ map (λ e. told (some e)) (sorted (eventsFrom 0 is))
 sorts s ok js is e p =
     let n = length is in
-    let q = nexts emptyQueue (map put is) in
+    let q = nexts emptyQueue (map insertOf is) in
     let live : q .events ≡ eventsFrom 0 is = events-put is [] 0 in
-    let puts = replies emptyQueue (map put is) in
+    let puts = replies emptyQueue (map insertOf is) in
     let all : answers (freshWorld s) js ≡ puts ++ extracts n q =
-    jobs-answered p emptyQueue (fresh-holds s ok) ∙ ap (replies emptyQueue) e ∙ replies-append emptyQueue (map put is) (replicate n extractMin)
+    jobs-answered p emptyQueue (fresh-holds s ok) ∙ ap (replies emptyQueue) e ∙ replies-append emptyQueue (map insertOf is) (replicate n extractMin)
     ∙ ap (λ (xs : List Reply). puts ++ xs) (replies-extracts n q) in
-    let long : length puts ≡ n = replies-many emptyQueue (map put is) ∙ length-map is put in
+    let long : length puts ≡ n = replies-many emptyQueue (map insertOf is) ∙ length-map is insertOf in
     let many : n ≤ length (q .events) = omega (arith, ap length live, from-many 0 is) in
     let out : extracts n q ≡ map (λ e. told (some e)) (take n (sorted (q .events))) =
     extracts-sorted n (q .events) (q .taken) (subst Distinct (sym live) (from-distinct 0 is)) many in

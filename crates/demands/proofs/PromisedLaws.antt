@@ -11,7 +11,7 @@ use borrow.Author.Tests.{eqb-true, eq-eqb, ne-eqb}
 use Rattle.path.specs.declared.sizes.Sizes.{Sizes}
 use Rattle.path.specs.Sizes.{treeIn, inRange}
 use Rattle.path.specs.Layout.{treeWords, freshTree}
-use Rattle.path.specs.BucketList.{laid}
+use Rattle.lists.specs.BucketList.{laid}
 use Rattle.refusal.specs.Refusal.{firstGiven}
 use Rattle.rack.specs.declared.Answer.{Answer as RackAnswer}
 use Rattle.rack.specs.Answers.{answerNumber, fillRefusal}
@@ -24,7 +24,7 @@ use Rattle.card.specs.Finish.{Finishes}
 use Rattle.demands.specs.World.{World, Call, Outcome, unless, alone, rackNumber, shown, finishNumber, wordsAfter, storedFrom}
 use Rattle.demands.specs.World.{finishing, step, outcomes}
 use Rattle.demands.specs.Promised.{Promised, by-begin, by-withdraw, by-min, by-refused, by-finish}
-use Rattle.demands.specs.Promised.{Carried, ended, called, holding, told, wholeOf, leastOf, FetchesHeld, StoresHeld}
+use Rattle.demands.specs.Promised.{Carried, ended, called, holding, told, wholeCount, leastCount, FetchesHeld, StoresHeld}
 
 -- a call of the card alone
 alone-told : (u : World) (n : ℕ) (done d : Done) (list : List ℕ) (whole least : ℕ) → Answered (u .card) n done d
@@ -60,15 +60,15 @@ alone-agree u n done list list′ whole whole′ least least′ p q r = elim (di
 ]
 
 begin-told : (u : World) (w : Waiting) (lent after : List ℕ) (d : Done) → Begins (u .card) w lent after d
-    → told u d after (wholeOf u d) (leastOf u d) ≡ alone u (firstGiven (beginTable (u .card) w (length lent))) (begun (u .card) w)
+    → told u d after (wholeCount u d) (leastCount u d) ≡ alone u (firstGiven (beginTable (u .card) w (length lent))) (begun (u .card) w)
     (laid (listOf (u .card) w) lent) (length (listOf (u .card) w .whole)) (length (listOf (u .card) w .least))
 unfolding orRefused
 begin-told u w lent after d b =
     let n = firstGiven (beginTable (u .card) w (length lent)) in
     let is : n ≡ 0 → d ≡ begun (u .card) w = λ e. b .call .whole ∙ rw (eq-eqb n 0 e) in
-    alone-told u n (begun (u .card) w) d after (wholeOf u d) (leastOf u d) (b .call)
-    ∙ alone-agree u n (begun (u .card) w) after _ (wholeOf u d) _ (leastOf u d) _
-    (λ e. b .places ∙ rw (eq-eqb n 0 e)) (λ e. ap (wholeOf u) (is e)) (λ e. ap (leastOf u) (is e))
+    alone-told u n (begun (u .card) w) d after (wholeCount u d) (leastCount u d) (b .call)
+    ∙ alone-agree u n (begun (u .card) w) after _ (wholeCount u d) _ (leastCount u d) _
+    (λ e. b .places ∙ rw (eq-eqb n 0 e)) (λ e. ap (wholeCount u) (is e)) (λ e. ap (leastCount u) (is e))
 
 unless-yes : {A : Type 0} (n : ℕ) (x y : A) → n ≡ 0 → x ≡ unless n x y
 unless-yes n x y e = rw (eq-eqb n 0 e)

@@ -8,51 +8,38 @@ use mathlib.Core.Option.{some}
 use mathlib.Core.Path.{_≡_, refl, sym, ap, _∙_}
 use mathlib.Mathlib.Data.Bool.Basic.{dichotomy}
 use native.Mathlib.Omega.{arith}
-use lib.Dec.{ltb, leb, eqb}
+use lib.Dec.{ltb, leb}
 use lib.ListN.{length, getD}
-use borrow.Author.Tests.{ltb-true, ltb-false, lt-ltb, le-ltb, le-leb, lt-leb, eq-eqb, ne-eqb, eqb-true, eqb-false}
+use borrow.Author.Tests.{ltb-true, ltb-false, lt-ltb, le-ltb, eq-eqb, ne-eqb}
 use Rattle.record.specs.declared.Leaf.{Leaf}
 use Rattle.record.specs.declared.Stamp.{Stamp}
 use Rattle.record.specs.declared.Record.{Record}
 use Rattle.record.specs.Standing.{dummy, isDummy, isProper}
 use Rattle.record.specs.Order.{noLater, smallerBy, smallestBy, smallest}
 use Rattle.record.proofs.StandingLaws.{proper-true}
-use Rattle.record.proofs.OrderLaws.{smaller-first, smallest-in, proper-before-dummy}
+use Rattle.record.proofs.OrderLaws.{order-by-key, smaller-first, smallest-in, proper-before-dummy}
 use Rattle.way.specs.Evict.{seek}
-use Rattle.gather.specs.Removal.{named, found}
-use Rattle.gather.proofs.RemovalLaws.{found-passes, member-found}
+use Rattle.clearing.specs.Removal.{named, found}
+use Rattle.clearing.proofs.RemovalLaws.{found-passes, member-found}
 use Rattle.good.specs.Live.{without, Ascending, more}
 use Rattle.good.proofs.FitLaws.{at-place}
 use Rattle.good.proofs.PickLaws.{named-is}
-use Rattle.demands.specs.Queue.{Event, Reference, refersTo, leastOf, sooner, has, takenOut}
+use Rattle.demands.specs.Queue.{Event, Reference, refersTo, leastEvent, sooner, has, takenOut}
 use Rattle.demands.specs.Says.{refOf, eventOf}
 
 -- ---- the least
--- records by key and then stamp, events by key alone: of an earlier record, or one with a smaller key, the two say the same
-pub order-by-key : (x y : Record) → (x .key < y .key) ⊎ (x .stamp .0 < y .stamp .0) → noLater x y ≡ leb (x .key) (y .key)
-unfolding noLater
-order-by-key x y h = elim (dichotomy (ltb (x .key) (y .key))) [
-  | inr t ↦ rw (t, le-leb (x .key) (y .key) (omega (arith, ltb-true)))
-  | inl f ↦ elim (dichotomy (eqb (x .key) (y .key))) [
-    | inr e ↦
-        let later : x .stamp .0 ≤ y .stamp .0 =
-        ⊎-elim (λ (k : x .key < y .key). absurd (omega (arith, eqb-true))) (λ (s : x .stamp .0 < y .stamp .0). omega arith) h in
-        rw (f, e, le-leb (x .stamp .0) (y .stamp .0) later, le-leb (x .key) (y .key) (omega (arith, eqb-true)))
-    | inl n ↦ rw (f, n, lt-leb (x .key) (y .key) (omega (arith, ltb-false, eqb-false (x .key) (y .key) n)))
-  ]
-]
-
+-- records go by key and then stamp, events by key alone (`order-by-key`)
 sooner-smaller : (x m : Record) → noLater x m ≡ leb (x .key) (m .key)
     → sooner (eventOf x) (some (eventOf m)) ≡ some (eventOf (smallerBy noLater x m))
 unfolding smallerBy
 sooner-smaller x m e = rw e (elim (leb (x .key) (m .key)) as (λ b. some (cond b (eventOf x) (eventOf m)) ≡ some (eventOf (cond b x m))) [ true ↦ refl | false ↦ refl ])
 
-first-one : (x : Record) → leastOf (map eventOf (x ∷ [])) ≡ some (eventOf x)
-unfolding leastOf
+first-one : (x : Record) → leastEvent (map eventOf (x ∷ [])) ≡ some (eventOf x)
+unfolding leastEvent
 first-one x = refl
 
-first-more : (x : Record) (es : List Event) (m : Event) → leastOf es ≡ some m → leastOf (eventOf x ∷ es) ≡ sooner (eventOf x) (some m)
-unfolding leastOf
+first-more : (x : Record) (es : List Event) (m : Event) → leastEvent es ≡ some m → leastEvent (eventOf x ∷ es) ≡ sooner (eventOf x) (some m)
+unfolding leastEvent
 first-more x es m e = rw e
 
 smallest-more : (x : Record) (xs : List Record) → smallest (x ∷ xs) ≡ smallerBy noLater x (smallest xs)
@@ -69,7 +56,7 @@ module _ (leaves : ℕ) (next : Stamp) where
 
   -- "earlier insertion first" is the order of stamps
   pub least-smallest : (x : Record) (xs : List Record) → Known (x ∷ xs) → Ascending (x ∷ xs)
-      → leastOf (map eventOf (x ∷ xs)) ≡ some (eventOf (smallest (x ∷ xs)))
+      → leastEvent (map eventOf (x ∷ xs)) ≡ some (eventOf (smallest (x ∷ xs)))
   least-smallest x [] k a = rw (smallest-one x (proper-before-dummy leaves next x (k x (List·Memᴰ·head refl)))) (first-one x)
   least-smallest x (y ∷ ys) k (more before rest) =
       let m = smallest (y ∷ ys) in

@@ -13,23 +13,25 @@ use Rattle.record.specs.Many.{every, reals, bears, stampTwice}
 use Rattle.record.specs.Order.{noLater, smallerBy, smallestBy}
 use Rattle.record.specs.Standing.{same, isDummy, known, isProper, mayStand}
 use Rattle.record.specs.Words.{records, wordsOf}
-use Rattle.path.specs.BucketList.{pairList, pathList, sum, wordsMoved}
+use Rattle.lists.specs.BucketList.{pairList, pathList, sum, wordsMoved}
 use Rattle.path.specs.Path.{pathBucket, holds, siblingOf, upFrom, path}
 use Rattle.path.specs.Sizes.{between, treeIn, inRange}
 use Rattle.refusal.specs.Refusal.{firstGiven}
 use Rattle.root.specs.Root.{strangeSlot, usedPast, stampShared, rootRecords, greaterThanSome, rootFull}
 use Rattle.judge.specs.BadParts.{oddLeast, badParts}
 use Rattle.way.specs.Evict.{seek, fits, movedTo, pull, pulls, evictUp, evict}
-use Rattle.way.specs.Least.{slotsAt, inOrder, kids}
-use Rattle.gather.specs.Removal.{named, found, removed}
+use Rattle.least.specs.Least.{slotsAt, inOrder, kids}
+use Rattle.clearing.specs.Removal.{named, found, removed}
 use Rattle.gather.specs.Shown.{wholeAt, siblingAt, siblingsShown, slotsShown, wayShown}
 use Rattle.mend.specs.Mended.{pathWords}
-use Rattle.work.specs.Work.{pathBuckets, rootAfter, leastAfter, seated}
-use Rattle.damage.specs.Damage.{sound, pathSound, siblingsSound, kidsShown, leastsTrue}
+use Rattle.work.specs.PathWork.{pathBuckets, rootAfter, leastAfter}
+use Rattle.pair.specs.PairWork.{seated}
+use Rattle.sound.specs.Sound.{sound, pathSound, siblingsSound}
+use Rattle.truth.specs.Leasts.{kidsShown, leastsTrue}
 use Rattle.damage.specs.Damaged.{pathDamaged, pairDamaged}
 use Rattle.settle.specs.Left.{removal, insertion, removalDamaged, insertionDamaged}
 use Rattle.rack.specs.Answers.{anyOutside}
-use Rattle.rack.specs.Copy.{stored}
+use Rattle.copies.specs.Copy.{stored}
 use Rattle.card.specs.Answers.{orRefused}
 use Rattle.card.specs.BadCard.{badCard}
 use Rattle.card.specs.Calls.{listOf, beginTable, minTable, withdrawTable}

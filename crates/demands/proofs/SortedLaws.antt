@@ -11,7 +11,7 @@ use mathlib.Mathlib.Data.Bool.Basic.{dichotomy}
 use native.Mathlib.Omega.{arith}
 use lib.ListN.{length, take}
 use borrow.Author.Tests.{eqb-true, eq-eqb, leb-true, leb-false}
-use Rattle.demands.specs.Queue.{Reference, Event, Reply, refersTo, noDearer, sooner, leastOf, has, takenOut, told}
+use Rattle.demands.specs.Queue.{Reference, Event, Reply, refersTo, noDearer, sooner, leastEvent, has, takenOut, told}
 use Rattle.demands.specs.Sorted.{placed, sorted, extracts, Distinct, more, Rising, flat, rise}
 
 -- ---- by reference
@@ -93,8 +93,8 @@ module _ (x y : Event) (ys : List Event) where
   unfolding placed
   placed-behind e = rw e
 
-least-step : (x : Event) (es : List Event) → leastOf (x ∷ es) ≡ sooner x (leastOf es)
-unfolding leastOf
+least-step : (x : Event) (es : List Event) → leastEvent (x ∷ es) ≡ sooner x (leastEvent es)
+unfolding leastEvent
 least-step x es = refl
 
 sorted-step : (x : Event) (es : List Event) → sorted (x ∷ es) ≡ placed x (sorted es)
@@ -109,13 +109,13 @@ placed-none : (x : Event) → placed x [] ≡ x ∷ []
 unfolding placed
 placed-none x = refl
 
-least-one : (x : Event) → leastOf (x ∷ []) ≡ some x
-unfolding leastOf
+least-one : (x : Event) → leastEvent (x ∷ []) ≡ some x
+unfolding leastEvent
 least-one x = refl
 
 -- the least comes first, and the rest is the rest sorted
 record First (es : List Event) (m : Event) (rest : List Event) : Type 0 where
-  least : leastOf es ≡ some m
+  least : leastEvent es ≡ some m
   first : sorted es ≡ m ∷ rest
   later : sorted (takenOut (m .ref) es) ≡ rest
   inside : List·Memᴰ m es

@@ -11,7 +11,7 @@ use lib.Dec.{eqb}
 use lib.ListN.{length}
 use borrow.Author.Tests.{eqb-true, eqb-false, eq-eqb, ne-eqb}
 use Rattle.record.specs.declared.Record.{Record}
-use Rattle.path.specs.BucketList.{BucketList, laid}
+use Rattle.lists.specs.BucketList.{BucketList, laid}
 use Rattle.refusal.specs.Refusal.{Refusal, row, firstGiven}
 use Rattle.refusal.proofs.RefusalLaws.{none-given}
 use Rattle.card.specs.declared.Card.{Card}

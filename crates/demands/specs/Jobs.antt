@@ -44,8 +44,8 @@ pub record Input : Type 0 where
   pub value : ℕ
   pub label : ℕ
 
-abbrev pub put : Input → Request
-put i = insert (i .key) (i .value) (i .label)
+abbrev pub insertOf : Input → Request
+insertOf i = insert (i .key) (i .value) (i .label)
 
 -- the events that they make, the first with this stamp
 abbrev pub made : ℕ → Input → Event

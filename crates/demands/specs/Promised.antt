@@ -32,11 +32,11 @@ module _ (u : World) where
   told d list whole least = record { world = holding d list whole least; answer = d .answer; fetch = 0; store = 0 }
 
   -- "how many are whole and how many are least-record only": the first two values of a begin's answer
-  abbrev pub wholeOf : Done → ℕ
-  wholeOf d = getD (valuesOf (d .answer)) 0 0
+  abbrev pub wholeCount : Done → ℕ
+  wholeCount d = getD (valuesOf (d .answer)) 0 0
 
-  abbrev pub leastOf : Done → ℕ
-  leastOf d = getD (valuesOf (d .answer)) 1 0
+  abbrev pub leastCount : Done → ℕ
+  leastCount d = getD (valuesOf (d .answer)) 1 0
 
   -- fetch and store by the list that is held
   abbrev pub FetchesHeld : List ℕ → RackAnswer → List ℕ → Type 0
@@ -49,7 +49,7 @@ module _ (u : World) where
 
   pub data Promised : Call → Outcome → Type 0 where
     by-begin : {w : Waiting} (asked : Asked w) (lent after : List ℕ) (d : Done) → Begins (u .card) w lent after d
-        → Promised (begin asked lent) (told d after (wholeOf d) (leastOf d))
+        → Promised (begin asked lent) (told d after (wholeCount d) (leastCount d))
     by-withdraw : (d : Done) → Answered (u .card) (firstGiven (withdrawTable (u .card))) (withdrawn (u .card)) d
         → Promised withdraw (told d [] 0 0)
     by-min : (d : Done) → Answered (u .card) (firstGiven (minTable (u .card))) (foundMin (u .card)) d

@@ -28,9 +28,9 @@ abbrev pub sooner : Event → Option Event → Option Event
 sooner x none = some x
 sooner x (some y) = some (cond (noDearer x y) x y)
 
-unfoldable pub leastOf : List Event → Option Event
-leastOf [] = none
-leastOf (x ∷ xs) = sooner x (leastOf xs)
+unfoldable pub leastEvent : List Event → Option Event
+leastEvent [] = none
+leastEvent (x ∷ xs) = sooner x (leastEvent xs)
 
 -- whether there is an event with this reference, and the list without it
 unfoldable pub has : Reference → List Event → Bool
@@ -69,8 +69,8 @@ module _ (q : Queue) where
 
   abbrev pub reply : Request → Reply
   reply (insert key value label) = referred (newEvent key value label .ref)
-  reply findMin = told (leastOf (q .events))
-  reply extractMin = told (leastOf (q .events))
+  reply findMin = told (leastEvent (q .events))
+  reply extractMin = told (leastEvent (q .events))
   reply (delete r) = wasFound (has r (q .events))
   reply nothing = silent
 
@@ -85,6 +85,6 @@ module _ (q : Queue) where
   abbrev pub next : Request → Queue
   next (insert key value label) = turned (q .events ++ (newEvent key value label ∷ []))
   next findMin = q
-  next extractMin = turned (withoutThis (leastOf (q .events)))
+  next extractMin = turned (withoutThis (leastEvent (q .events)))
   next (delete r) = turned (takenOut r (q .events))
   next nothing = q

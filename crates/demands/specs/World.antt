@@ -10,12 +10,12 @@ use Rattle.record.specs.declared.Stamp.{Stamp}
 use Rattle.record.specs.Standing.{dummyKey}
 use Rattle.path.specs.declared.sizes.Sizes.{Sizes}
 use Rattle.path.specs.Layout.{freshTree}
-use Rattle.path.specs.BucketList.{BucketList, laid}
+use Rattle.lists.specs.BucketList.{BucketList, laid}
 use Rattle.refusal.specs.Refusal.{firstGiven}
 use Rattle.settle.specs.Left.{wordsLeft}
 use Rattle.rack.specs.Refusals.{afterwards}
 use Rattle.rack.specs.Answers.{copyRefusal}
-use Rattle.rack.specs.Copy.{listed, fetched, stored}
+use Rattle.copies.specs.Copy.{listed, fetched, stored}
 use Rattle.card.specs.declared.Card.{Card}
 use Rattle.request.specs.declared.Waiting.{Waiting}
 use Rattle.request.specs.declared.Waiting.the-variants.{Insert, Extract, Delete}

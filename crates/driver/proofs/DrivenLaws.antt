@@ -1,13 +1,13 @@
 -- The entrance against the calls by value: the kind first, then as the call itself. Assumes nothing.
 use Prim.Native.Nat.{ℕ, zero, suc}
-use mathlib.Core.Bool.{true, false, cond}
+use mathlib.Core.Bool.{Bool, true, false, cond}
 use mathlib.Core.List.{List}
 use mathlib.Core.Path.{_≡_, refl, sym, ap, _∙_}
 use native.Mathlib.Omega.{arith}
 use lib.Dec.{eqb}
 use lib.ListN.{length}
 use borrow.Author.Tests.{ne-eqb}
-use Rattle.path.specs.BucketList.{laid}
+use Rattle.lists.specs.BucketList.{laid}
 use Rattle.refusal.specs.Refusal.{Refusal, firstGiven}
 use Rattle.card.specs.declared.Card.{Card}
 use Rattle.card.specs.declared.Done.{Done}
@@ -18,6 +18,8 @@ use Rattle.card.specs.Finish.{finishTable, finished, Finishes}
 use Rattle.image.specs.Image.{imageOf}
 use Rattle.image.specs.Reading.{cardIn, oddKind}
 use Rattle.image.proofs.ImageLaws.{card-image, image-even}
+use Rattle.held.specs.Held.{noCard, heldIn}
+use Rattle.held.proofs.HeldLaws.{none-begins, none-finishes, held-odd, held-even}
 use Rattle.rack.specs.declared.Answer.{Answer}
 use Rattle.rack.specs.Answers.{answerNumber}
 use Rattle.rack.specs.Promises.{Answers}
@@ -36,56 +38,66 @@ module _ (ws : List ℕ) (table : Card → List Refusal) where
   unfolding firstGiven
   even-card h = rw h
 
-  -- what the call comes to, on this card or another
-  module _ (done : Card → Done) (told : List ℕ) where
-    pub odd-refused : oddKind ws ≡ true → Called (onCard ws table) (done (cardIn ws)) ws told 13 ws told
-    odd-refused h = rw (odd-card h) (record { number = refl; card = refl; answer = refl })
-
-    pub even-called :
-        (k : Card) (d : Done) (n : ℕ) (ws′ told′ : List ℕ) → oddKind ws ≡ false → k ≡ cardIn ws
-        → Answered k (firstGiven (table k)) (done k) d → Settled d ws told n ws′ told′
-        → Called (onCard ws table) (done (cardIn ws)) ws told n ws′ told′
-    even-called k d n ws′ told′ h e a s =
-        rw (even-card h, ← e) (called k _ (done k) d ws told n ws′ told′ a s)
-
--- ---- a begin
+-- ---- a call on the card that is held
 laid-or-kept : (number : ℕ) (done before : List ℕ) → cond (eqb number 0) done before ≡ afterwards number done before
 laid-or-kept zero done before = refl
 laid-or-kept (suc number) done before = rw (ne-eqb (suc number) 0 (λ e. omega arith))
 
-module _ (w : Waiting) (ws told list : List ℕ) where
-  abbrev table : Card → List Refusal
-  table k = beginTable k w (length list)
+module _ (ws : List ℕ) (table : Card → List Refusal) (none : firstGiven (table noCard) ≡ 13) where
+  module _ (done : Card → Done) (told : List ℕ) (d : Done) (n : ℕ) (ws′ told′ : List ℕ) where
+    called-on :
+        (b : Bool) → oddKind ws ≡ b → Called (firstGiven (table (heldIn ws))) (done (heldIn ws)) ws told n ws′ told′
+        → Called (onCard ws table) (done (cardIn ws)) ws told n ws′ told′
+    called-on true h c =
+        let e : firstGiven (table (heldIn ws)) ≡ 13 = rw (held-odd ws h) none in
+        let p = rw e at c in
+        rw (odd-card ws table h) (record { number = p .number; card = p .card; answer = p .answer })
+    called-on false h c = rw (even-card ws table h, ← held-even ws h) c
 
-  pub odd-begin : oddKind ws ≡ true → BeginsAt w ws told list 13 ws told list
-  odd-begin h = record { call = odd-refused ws table (λ k. begun k w) told h; places = rw (odd-card ws table h) }
+    pub held-called :
+        (k : Card) → k ≡ heldIn ws → Answered k (firstGiven (table k)) (done k) d → Settled d ws told n ws′ told′
+        → Called (onCard ws table) (done (cardIn ws)) ws told n ws′ told′
+    held-called k e a s =
+        called-on (oddKind ws) refl (rw e at (called k _ (done k) d ws told n ws′ told′ a s))
 
-  pub even-begin :
-      (k : Card) (d : Done) (n : ℕ) (ws′ told′ list′ : List ℕ) → oddKind ws ≡ false → k ≡ cardIn ws
-      → Begins k w list list′ d → Settled d ws told n ws′ told′ → BeginsAt w ws told list n ws′ told′ list′
-  even-begin k d n ws′ told′ list′ h e b s =
-      record {
-        call = even-called ws table (λ k. begun k w) told k d n ws′ told′ h e (b .call) s;
-        places = rw (even-card ws table h, ← e) (b .places ∙ laid-or-kept (firstGiven (table k)) (laid (listOf k w) list) list);
-      }
+  -- what is written where the call is done, and stays where it is refused
+  module _ (done : Card → List ℕ) (before after : List ℕ) where
+    lent-on :
+        (b : Bool) → oddKind ws ≡ b → after ≡ afterwards (firstGiven (table (heldIn ws))) (done (heldIn ws)) before
+        → after ≡ afterwards (onCard ws table) (done (cardIn ws)) before
+    lent-on true h l =
+        let e : firstGiven (table (heldIn ws)) ≡ 13 = rw (held-odd ws h) none in
+        let p = rw e at l in
+        rw (odd-card ws table h) p
+    lent-on false h l = rw (even-card ws table h, ← held-even ws h) l
+
+    held-lent :
+        (k : Card) → k ≡ heldIn ws → after ≡ cond (eqb (firstGiven (table k)) 0) (done k) before
+        → after ≡ afterwards (onCard ws table) (done (cardIn ws)) before
+    held-lent k e l =
+        lent-on (oddKind ws) refl (rw e at (l ∙ laid-or-kept (firstGiven (table k)) (done k) before))
+
+-- ---- a begin
+pub held-begin :
+    (w : Waiting) (ws told list : List ℕ) (k : Card) (d : Done) (n : ℕ) (ws′ told′ list′ : List ℕ) → k ≡ heldIn ws
+    → Begins k w list list′ d → Settled d ws told n ws′ told′ → BeginsAt w ws told list n ws′ told′ list′
+held-begin w ws told list k d n ws′ told′ list′ e b s =
+    let table : Card → List Refusal = λ x. beginTable x w (length list) in
+    record {
+      call = held-called ws table (none-begins w (length list)) (λ x. begun x w) told d n ws′ told′ k e (b .call) s;
+      places = held-lent ws table (none-begins w (length list)) (λ x. laid (listOf x w) list) list list′ k e (b .places);
+    }
 
 -- ---- a finish
-module _ (ws told fetched : List ℕ) where
-  abbrev atEntry : Card → List Refusal
-  atEntry k = finishTable k fetched
-
-  pub odd-finish : oddKind ws ≡ true → FinishesAt ws told fetched 13 ws told fetched
-  odd-finish h =
-      record { call = odd-refused ws atEntry (λ k. finished k fetched) told h; words = rw (odd-card ws atEntry h) }
-
-  pub even-finish :
-      (k : Card) (d : Done) (n : ℕ) (ws′ told′ after : List ℕ) → oddKind ws ≡ false → k ≡ cardIn ws
-      → Finishes k fetched after d → Settled d ws told n ws′ told′ → FinishesAt ws told fetched n ws′ told′ after
-  even-finish k d n ws′ told′ after h e f s =
-      record {
-        call = even-called ws atEntry (λ k. finished k fetched) told k d n ws′ told′ h e (f .call) s;
-        words = rw (even-card ws atEntry h, ← e) (f .words ∙ laid-or-kept (firstGiven (atEntry k)) (leftOn k fetched) fetched);
-      }
+pub held-finish :
+    (ws told fetched : List ℕ) (k : Card) (d : Done) (n : ℕ) (ws′ told′ after : List ℕ) → k ≡ heldIn ws
+    → Finishes k fetched after d → Settled d ws told n ws′ told′ → FinishesAt ws told fetched n ws′ told′ after
+held-finish ws told fetched k d n ws′ told′ after e f s =
+    let table : Card → List Refusal = λ x. finishTable x fetched in
+    record {
+      call = held-called ws table (none-finishes fetched) (λ x. finished x fetched) told d n ws′ told′ k e (f .call) s;
+      words = held-lent ws table (none-finishes fetched) (λ x. leftOn x fetched) fetched after k e (f .words);
+    }
 
 -- ---- a rack's call
 pub racked :

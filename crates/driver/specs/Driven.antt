@@ -3,7 +3,7 @@ use Prim.Native.Nat.{ℕ}
 use mathlib.Core.List.{List, _∷_}
 use mathlib.Core.Path.{_≡_}
 use lib.ListN.{length}
-use Rattle.path.specs.BucketList.{laid}
+use Rattle.lists.specs.BucketList.{laid}
 use Rattle.refusal.specs.Refusal.{Refusal, row, firstGiven}
 use Rattle.card.specs.declared.Card.{Card}
 use Rattle.request.specs.declared.Waiting.{Waiting}

@@ -3,7 +3,7 @@
 //
 // The card is the 272 words of `image`. Each call returns the refusal's number, or 0, and fills an answer of six words. A
 // refused call leaves card, answer and every lent slice as they were. The header for C is nwidarap.h in this crate's
-// folder. Stands on `image`, `card`, `rack` and `told`.
+// folder. Stands on `held`, `card`, `rack` and `told`.
 mod requests;
 mod store;
 

@@ -1,5 +1,5 @@
 // The calls on a card: document 01, "A request, step by step". A kind above 3 is no card's and gives 13, which comes
-// first in every order but start's.
+// first in every order but start's: a card that is bad takes its place, and the card's own call refuses that.
 ghost use Rattle.path.specs.Sizes.{sizesOf};
 ghost use Rattle.card.specs.Calls.{startTable, started, minTable, foundMin, withdrawTable, withdrawn};
 ghost use Rattle.image.specs.Reading.{cardIn};
@@ -9,7 +9,6 @@ ghost use Rattle.told.specs.Told.{Called};
 use card::Card;
 use record::Leaf;
 use record::Stamp;
-use refusal::BAD_CARD;
 use request::Waiting;
 
 #[no_mangle]
@@ -40,11 +39,8 @@ pub extern "C" fn nwidarap_insert(
 ) -> u64
     ensures { λ n. ⌜ BeginsAt (Waiting.Insert key value (record { 0 = label }) (record { 0 = first }) (record { 0 = second })) (now (card .entry)) (now (answer .entry)) (now (list .entry)) n (now (card .exit)) (now (answer .exit)) (now (list .exit)) ⌝ }
 {
-    if image::is_odd(card) {
-        return BAD_CARD;
-    }
-    let held = image::read(card);
-    let done = held.begin_insert(key, value, Leaf(label), Leaf(first), Leaf(second), list);
+    let taken = held::card_of(card);
+    let done = taken.begin_insert(key, value, Leaf(label), Leaf(first), Leaf(second), list);
     told::settle(done, card, answer)
 }
 
@@ -56,11 +52,8 @@ pub extern "C" fn nwidarap_extract(
 ) -> u64
     ensures { λ n. ⌜ BeginsAt Waiting.Extract (now (card .entry)) (now (answer .entry)) (now (list .entry)) n (now (card .exit)) (now (answer .exit)) (now (list .exit)) ⌝ }
 {
-    if image::is_odd(card) {
-        return BAD_CARD;
-    }
-    let held = image::read(card);
-    let done = held.begin_extract(list);
+    let taken = held::card_of(card);
+    let done = taken.begin_extract(list);
     told::settle(done, card, answer)
 }
 
@@ -74,11 +67,8 @@ pub extern "C" fn nwidarap_delete(
 ) -> u64
     ensures { λ n. ⌜ BeginsAt (Waiting.Delete (record { 0 = label }) (record { 0 = stamp })) (now (card .entry)) (now (answer .entry)) (now (list .entry)) n (now (card .exit)) (now (answer .exit)) (now (list .exit)) ⌝ }
 {
-    if image::is_odd(card) {
-        return BAD_CARD;
-    }
-    let held = image::read(card);
-    let done = held.begin_delete(Leaf(label), Stamp(stamp), list);
+    let taken = held::card_of(card);
+    let done = taken.begin_delete(Leaf(label), Stamp(stamp), list);
     told::settle(done, card, answer)
 }
 
@@ -86,11 +76,8 @@ pub extern "C" fn nwidarap_delete(
 pub extern "C" fn nwidarap_find_min(card: &mut [u64; 272], answer: &mut [u64; 6]) -> u64
     ensures { λ n. ⌜ Called (onCard (now (card .entry)) minTable) (foundMin (cardIn (now (card .entry)))) (now (card .entry)) (now (answer .entry)) n (now (card .exit)) (now (answer .exit)) ⌝ }
 {
-    if image::is_odd(card) {
-        return BAD_CARD;
-    }
-    let held = image::read(card);
-    let done = held.find_min();
+    let taken = held::card_of(card);
+    let done = taken.find_min();
     told::settle(done, card, answer)
 }
 
@@ -98,11 +85,8 @@ pub extern "C" fn nwidarap_find_min(card: &mut [u64; 272], answer: &mut [u64; 6]
 pub extern "C" fn nwidarap_withdraw(card: &mut [u64; 272], answer: &mut [u64; 6]) -> u64
     ensures { λ n. ⌜ Called (onCard (now (card .entry)) withdrawTable) (withdrawn (cardIn (now (card .entry)))) (now (card .entry)) (now (answer .entry)) n (now (card .exit)) (now (answer .exit)) ⌝ }
 {
-    if image::is_odd(card) {
-        return BAD_CARD;
-    }
-    let held = image::read(card);
-    let done = held.withdraw();
+    let taken = held::card_of(card);
+    let done = taken.withdraw();
     told::settle(done, card, answer)
 }
 
@@ -114,10 +98,7 @@ pub extern "C" fn nwidarap_finish(
 ) -> u64
     ensures { λ n. ⌜ FinishesAt (now (card .entry)) (now (answer .entry)) (now (words .entry)) n (now (card .exit)) (now (answer .exit)) (now (words .exit)) ⌝ }
 {
-    if image::is_odd(card) {
-        return BAD_CARD;
-    }
-    let held = image::read(card);
-    let done = held.finish(words);
+    let taken = held::card_of(card);
+    let done = taken.finish(words);
     told::settle(done, card, answer)
 }

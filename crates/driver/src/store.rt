@@ -2,7 +2,7 @@
 // They answer nothing but their number, so that an answer has six zeros.
 ghost use Rattle.path.specs.Layout.{freshTree};
 ghost use Rattle.rack.specs.Answers.{fillRefusal, copyRefusal};
-ghost use Rattle.rack.specs.Copy.{listed, fetched, stored};
+ghost use Rattle.copies.specs.Copy.{listed, fetched, stored};
 ghost use Rattle.driver.specs.Driven.{Racked};
 
 #[no_mangle]

@@ -1,7 +1,7 @@
 // Ranges of sizes, path numbers, siblings and bucket lists.
 ghost use Prim.Native.Nat.{_≤_, _<_, _^_};
 use crate::line;
-use path::Listed;
+use lists::Listed;
 use path::Sizes;
 use record::Leaf;
 
@@ -39,6 +39,13 @@ pub(crate) fn ranges() {
 
 // The path of leaf 1 at height 2, root first, and its siblings below the root.
 pub(crate) fn numbers() {
+    path_numbers();
+    sibling_numbers();
+    holds_line(b"leaf 0 holds bucket 2 at level 1:", Leaf(0));
+    holds_line(b"leaf 2 holds bucket 2 at level 1:", Leaf(2));
+}
+
+fn path_numbers() {
     let sizes = Sizes {
         h: 2,
         z: 1,
@@ -50,15 +57,32 @@ pub(crate) fn numbers() {
     line::number(sizes.bucket_at(Leaf(1), 1).0);
     line::number(sizes.bucket_at(Leaf(1), 2).0);
     line::end();
+}
+
+fn sibling_numbers() {
+    let sizes = Sizes {
+        h: 2,
+        z: 1,
+        r: 1,
+        t: 16,
+    };
     line::name(b"its siblings:");
     line::number(path::sibling(sizes.bucket_at(Leaf(1), 1)).0);
     line::number(path::sibling(sizes.bucket_at(Leaf(1), 2)).0);
     line::end();
-    line::name(b"leaf 0 holds bucket 2 at level 1:");
-    line::verdict(sizes.holds(Leaf(0), 1, sizes.bucket_at(Leaf(1), 1)));
-    line::end();
-    line::name(b"leaf 2 holds bucket 2 at level 1:");
-    line::verdict(sizes.holds(Leaf(2), 1, sizes.bucket_at(Leaf(1), 1)));
+}
+
+fn holds_line(text: &[u8], leaf: Leaf)
+    requires { ⌜ leaf .0 < 2 ^ 2 ⌝ }
+{
+    let sizes = Sizes {
+        h: 2,
+        z: 1,
+        r: 1,
+        t: 16,
+    };
+    line::name(text);
+    line::verdict(sizes.holds(leaf, 1, sizes.bucket_at(Leaf(1), 1)));
     line::end();
 }
 
@@ -89,7 +113,7 @@ fn pair_line(text: &[u8], sizes: Sizes, first: Leaf, second: Leaf)
     requires { ⌜ (first .0 < 2 ^ sizes .h) × (second .0 < 2 ^ sizes .h) ⌝ }
 {
     let mut list = [99u64; 12];
-    let counts = sizes.list_pair(first, second, &mut list);
+    let counts = lists::list_pair(sizes, first, second, &mut list);
     list_line(text, &list);
     counts_line(counts, sizes.z);
 }
@@ -99,7 +123,7 @@ fn path_line(text: &[u8], sizes: Sizes, leaf: Leaf)
     requires { ⌜ leaf .0 < 2 ^ sizes .h ⌝ }
 {
     let mut list = [99u64; 12];
-    let counts = sizes.list_path(leaf, &mut list);
+    let counts = lists::list_path(sizes, leaf, &mut list);
     list_line(text, &list);
     counts_line(counts, sizes.z);
 }

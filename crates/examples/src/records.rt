@@ -19,10 +19,16 @@ fn verdict_line(text: &[u8], yes: bool) {
     line::end();
 }
 
-// N is 4 here, and three requests are finished.
 pub(crate) fn records() {
-    let next = Stamp(3);
     record_line(b"dummy:", Record::DUMMY);
+    keys();
+    bounds();
+    orders();
+}
+
+// N is 4 here, and three requests are finished.
+fn keys() {
+    let next = Stamp(3);
     let last_key = Record::proper(18446744073709551614, 0, Leaf(3), Stamp(2));
     verdict_line(b"key 2^64 - 2 is proper:", last_key.is_proper(4, next));
     let no_key = Record::proper(18446744073709551615, 0, Leaf(3), Stamp(2));
@@ -35,14 +41,22 @@ pub(crate) fn records() {
         b"key 2^64 - 1 with a label may stand:",
         no_key.may_stand(4, next),
     );
+}
+
+fn bounds() {
+    let next = Stamp(3);
     verdict_line(b"the dummy may stand:", Record::DUMMY.may_stand(4, next));
     let label_n = Record::proper(5, 50, Leaf(4), Stamp(2));
     verdict_line(b"label N is proper:", label_n.is_proper(4, next));
     let stamp_t = Record::proper(5, 50, Leaf(3), Stamp(3));
     verdict_line(b"stamp t is proper:", stamp_t.is_proper(4, next));
+}
+
+fn orders() {
     let early = Record::proper(5, 50, Leaf(3), Stamp(0));
     let late = Record::proper(5, 40, Leaf(1), Stamp(1));
     record_line(b"equal keys, the smaller is:", late.smaller(early));
+    let last_key = Record::proper(18446744073709551614, 0, Leaf(3), Stamp(2));
     record_line(
         b"the last key before the dummy:",
         Record::DUMMY.smaller(last_key),

@@ -11,30 +11,7 @@ pub(crate) fn numbers(list: &[u64]) {
 }
 
 pub(crate) fn answer(answer: Answer) {
-    match answer {
-        Answer::Started => numbers(&[0, 0, 0, 0, 0, 0, 0]),
-        Answer::Listed { whole, least } => { numbers(&[0, whole as u64, least as u64, 0, 0, 0, 0]) }
-        Answer::Least(r) => numbers(&[0, r.key, r.value, r.label.0, r.stamp.0, 0, 0]),
-        Answer::Withdrawn => numbers(&[0, 0, 0, 0, 0, 0, 0]),
-        Answer::Inserted {
-            label,
-            stamp,
-            words,
-        } => numbers(&[0, 0, 0, label.0, stamp.0, 0, words]),
-        Answer::Extracted { event, words } => {
-            numbers(
-                &[
-                    0,
-                    event.key,
-                    event.value,
-                    event.label.0,
-                    event.stamp.0,
-                    0,
-                    words,
-                ],
-            )
-        }
-        Answer::Deleted { found, words } => numbers(&[0, 0, 0, 0, 0, found as u64, words]),
-        Answer::Refused(number) => numbers(&[number, 0, 0, 0, 0, 0, 0]),
-    }
+    let n = values::number_of(answer);
+    let v = values::values_of(answer);
+    numbers(&[n, v[0], v[1], v[2], v[3], v[4], v[5]]);
 }

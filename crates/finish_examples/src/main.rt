@@ -11,6 +11,9 @@ fn main() {
     let done = Card::start(2, 1, 1, 16);
     let mut tree = [0u64; 48];
     rack::fill(&mut tree, 2, 1);
-    rounds::play(done.card, &mut tree);
+    let full = rounds::insertions(done.card, &mut tree);
+    rounds::least(full);
+    let fewer = rounds::extraction(full, &mut tree);
+    rounds::removals(fewer, &mut tree);
     eviction::pins();
 }

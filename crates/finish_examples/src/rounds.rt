@@ -6,24 +6,28 @@ use card::Done;
 use record::Leaf;
 use record::Stamp;
 
-// What was listed is fetched, worked on and stored back; a refused begin is answered as it is.
+// The answer is printed, and the card goes on.
+fn told(done: Done) -> Card {
+    let answer = done.answer;
+    line::answer(answer);
+    done.card
+}
+
+// What was listed is fetched, worked on and stored back.
+fn worked(card: Card, list: &[u64], whole: usize, least: usize, tree: &mut [u64]) -> Done {
+    let mut words = [0u64; 44];
+    rack::fetch(2, 1, tree, list, whole, least, &mut words);
+    let done = card.finish(&mut words);
+    rack::store(2, 1, tree, list, whole, least, &words);
+    done
+}
+
+// A refused begin is answered as it is.
 fn round(begun: Done, list: &[u64], tree: &mut [u64]) -> Card {
     let answer = begun.answer;
-    let card = begun.card;
     match answer {
-        Answer::Listed { whole, least } => {
-            let mut words = [0u64; 44];
-            rack::fetch(2, 1, tree, list, whole, least, &mut words);
-            let done = card.finish(&mut words);
-            rack::store(2, 1, tree, list, whole, least, &words);
-            let told = done.answer;
-            line::answer(told);
-            done.card
-        }
-        _ => {
-            line::answer(answer);
-            card
-        }
+        Answer::Listed { whole, least } => told(worked(begun.card, list, whole, least, tree)),
+        _ => told(begun),
     }
 }
 
@@ -46,12 +50,6 @@ fn delete(card: Card, tree: &mut [u64], label: Leaf, stamp: Stamp) -> Card {
     round(begun, &list, tree)
 }
 
-fn min(card: Card) {
-    let done = card.find_min();
-    let told = done.answer;
-    line::answer(told);
-}
-
 // The words of a bucket: with height 2 and one slot, the buckets 2 to 7 have 8 words each.
 fn bucket(tree: &[u64], number: usize) {
     if number < 2 {
@@ -66,16 +64,29 @@ fn bucket(tree: &[u64], number: usize) {
     }
 }
 
-pub(crate) fn play(fresh: Card, tree: &mut [u64]) {
+// The third finds the root full.
+pub(crate) fn insertions(fresh: Card, tree: &mut [u64]) -> Card {
     let one = insert(fresh, tree, 7, 70, Leaf(0));
     bucket(tree, 2);
     let two = insert(one, tree, 5, 50, Leaf(0));
-    let three = insert(two, tree, 6, 60, Leaf(3));
-    min(three);
-    let four = extract(three, tree);
+    insert(two, tree, 6, 60, Leaf(3))
+}
+
+pub(crate) fn least(card: Card) {
+    told(card.find_min());
+}
+
+// The event that is the least, and the buckets that it leaves.
+pub(crate) fn extraction(full: Card, tree: &mut [u64]) -> Card {
+    let one = extract(full, tree);
     bucket(tree, 2);
     bucket(tree, 4);
-    let five = delete(four, tree, Leaf(0), Stamp(0));
-    let six = delete(five, tree, Leaf(0), Stamp(0));
-    extract(six, tree);
+    one
+}
+
+// The second Delete finds nothing, and then no event is left.
+pub(crate) fn removals(card: Card, tree: &mut [u64]) {
+    let one = delete(card, tree, Leaf(0), Stamp(0));
+    let two = delete(one, tree, Leaf(0), Stamp(0));
+    extract(two, tree);
 }

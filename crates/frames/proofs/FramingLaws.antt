@@ -11,10 +11,10 @@ use lib.ListN.{length, take, drop, length-take}
 use lib.Seq.{take-all, take-nil, take-at, drop-drop}
 use borrow.Author.Tests.{ltb-true, ltb-false, lt-ltb, eqb-true}
 use Rattle.frames.specs.declared.Taken.{Taken}
-use Rattle.lines.specs.Pieces.{pieces, linesOf, before}
-use Rattle.lines.specs.Says.{lineSays}
+use Rattle.fields.specs.Pieces.{pieces, before}
+use Rattle.lines.specs.Says.{linesOf, lineSays}
 use Rattle.frames.specs.Framing.{endedIn, begunBy, lastOf, hasEnd, takenOf, keptOf, Takes}
-use Rattle.lines.proofs.PiecesLaws.{before-head}
+use Rattle.fields.proofs.PiecesLaws.{before-head}
 use Rattle.lines.proofs.SaysLaws.{over-long}
 use Rattle.frames.proofs.TakeLaws.{takes-within, takes-room}
 

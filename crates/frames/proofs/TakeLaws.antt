@@ -9,10 +9,10 @@ use lib.Dec.{leb}
 use lib.ListN.{length, getD, take, drop, set, length-set, length-append, length-take, length-drop}
 use lib.Seq.{paste, paste-zero, paste-suc, getD-drop, length-take-le, take-all, take-take, take-append-add}
 use borrow.Author.Tests.{leb-true, leb-false, lt-ltb, le-ltb, ltb-true, ltb-false}
-use Rattle.lines.specs.Pieces.{before}
+use Rattle.fields.specs.Pieces.{before}
 use Rattle.frames.specs.declared.Taken.{Taken}
 use Rattle.frames.specs.Framing.{hasEnd, keptOf, Takes}
-use Rattle.lines.proofs.PiecesLaws.{before-fits, before-head}
+use Rattle.fields.proofs.PiecesLaws.{before-fits, before-head}
 
 -- ---- the loop that appends
 pub record Appending (old : List ℕ) (at : ℕ) (bytes : List ℕ) (n i : ℕ) (now : List ℕ) : Type 0 where

@@ -7,7 +7,7 @@ use mathlib.Core.Path.{_≡_}
 use lib.Dec.{ltb, eqb}
 use lib.ListN.{length, take, drop}
 use Rattle.frames.specs.declared.Taken.{Taken}
-use Rattle.lines.specs.Pieces.{before}
+use Rattle.fields.specs.Pieces.{before}
 
 -- the lines that end in these bytes, where `begun` has come of the first one before
 unfoldable pub endedIn : List ℕ → List ℕ → List (List ℕ)

@@ -6,7 +6,7 @@ ghost use lib.ListN.{length};
 ghost use Rattle.decimal.specs.Promises.{Laid};
 ghost use Rattle.frames.specs.Answer.{answerLine, unreadableLine};
 use crate::framing::LINE_END;
-use lines::SPACE;
+use fields::SPACE;
 
 const QUESTION: u8 = 63;
 

@@ -9,7 +9,7 @@ ghost use lib.ListN.{length, drop};
 ghost use lib.Seq.{paste};
 ghost use Rattle.frames.specs.Framing.{Takes};
 use crate::Taken;
-use lines::end_of;
+use fields::end_of;
 
 pub(crate) const LINE_END: u8 = 10;
 

@@ -1,5 +1,5 @@
-// Lines cut out of bytes as they come, and answers as bytes: document 01, "What the desk sees". Stands on `decimal` and
-// `lines`.
+// Lines cut out of bytes as they come, and answers as bytes: document 01, "What the desk sees". Stands on `decimal`,
+// `fields` and `lines`.
 mod answer;
 mod framing;
 

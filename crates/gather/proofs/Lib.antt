@@ -2,6 +2,5 @@
 pub mod LaidLaws
 pub mod ShownLaws
 pub mod LoadedLaws
-pub mod RemovalLaws
 pub mod Loading
 pub mod RootLaws

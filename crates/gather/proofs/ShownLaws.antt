@@ -12,8 +12,8 @@ use Rattle.record.specs.Standing.{dummy}
 use Rattle.record.specs.Words.{records}
 use Rattle.record.proofs.WordsLaws.{records-long, records-take, records-drop}
 use Rattle.path.specs.Path.{upFrom}
-use Rattle.path.proofs.Naming.{length-upFrom}
-use Rattle.way.specs.Least.{slotsAt, rootSlots}
+use Rattle.lists.proofs.Naming.{length-upFrom}
+use Rattle.least.specs.Least.{slotsAt, rootSlots}
 use Rattle.way.proofs.WayLaws.{part-length}
 use Rattle.gather.specs.Shown.{wholeAt, siblingAt, siblingsShown, slotsShown, wayShown}
 

@@ -1,4 +1,3 @@
--- What card and fetched words show of a way, how a scratch is loaded, and what a removal does to it.
+-- What card and fetched words show of a way, and how a scratch is loaded.
 pub mod Shown
 pub mod Laid
-pub mod Removal

@@ -1,5 +1,4 @@
-// Root and fetched words in the scratch of one way, and a record found and cleared there: document 01, "Finish takes the
-// fetched words in list order", and what ExtractMin and Delete do before the path is evicted.
+// Root and fetched words in the scratch of one way: document 01, "Finish takes the fetched words in list order".
 //
 // A scratch is a lent slice of words, four to a record: the root's R slots, then Z for each level down to the leaf. Each
 // function that writes promises every word of the slice. Stands on `record`, `path` and the definitions of `way`.
@@ -8,15 +7,11 @@ ghost use mathlib.Core.List.{_++_};
 ghost use Prim.Native.Nat.{_+_, _*_, _-_, _≤_};
 ghost use lib.ListN.{length, take, drop};
 ghost use Rattle.record.specs.Words.{records};
-ghost use Rattle.way.specs.Evict.{seek};
 ghost use Rattle.gather.specs.Laid.{laidOver, SiblingsLoaded};
 ghost use Rattle.gather.specs.Shown.{slotsShown};
-ghost use Rattle.gather.specs.Removal.{named, Cleared};
 use path::Sizes;
-use record::Leaf;
 use record::RECORD_WORDS;
 use record::Record;
-use record::Stamp;
 
 // For crates above: n records of `src` from place `from` on, to place `at` of `w` and on. Words are copied, not records
 // read: what a record means is nothing to a copy.
@@ -109,45 +104,4 @@ pub fn load_siblings(
         place += 1;
     }
     moved
-}
-
-// "the record that has this label and stamp". Stamps differ most, so they are looked at first; the dummy has label and
-// stamp 0, and is no record.
-fn is_named(record: Record, label: Leaf, stamp: Stamp) -> bool
-    ensures { λ b. ⌜ b ≡ named label stamp «record» ⌝ }
-{
-    if record.stamp.0 != stamp.0 {
-        return false;
-    }
-    if record.label.0 != label.0 {
-        return false;
-    }
-    !record.is_dummy()
-}
-
-// For crates above: the place of the first record of this label and stamp; the number of places if there is none.
-pub fn find(w: &[u64], label: Leaf, stamp: Stamp) -> usize
-    ensures { λ i. ⌜ i ≡ seek (named label stamp) (length (records (now (w .entry)))) (records (now (w .entry))) ⌝ }
-{
-    let n = w.len() / RECORD_WORDS;
-    for i in 0..n {
-        let record = Record::read(w, i);
-        if is_named(record, label, stamp) {
-            return i;
-        }
-    }
-    n
-}
-
-// For crates above: the record of this label and stamp replaced by the dummy, all four words of it, or nothing changed;
-// and whether it was there.
-pub fn clear(w: &mut [u64], label: Leaf, stamp: Stamp) -> bool
-    ensures { λ b. ⌜ Cleared (named label stamp) (now (w .entry)) (now (w .exit)) b ⌝ }
-{
-    let i = find(w, label, stamp);
-    if i < w.len() / RECORD_WORDS {
-        Record::DUMMY.write(w, i);
-        return true;
-    }
-    false
 }

@@ -17,8 +17,8 @@ use Rattle.record.specs.Standing.{dummy, isDummy}
 use Rattle.record.proofs.StandingLaws.{is-dummy, dummy-is}
 use Rattle.path.specs.declared.sizes.Sizes.{Sizes}
 use Rattle.way.specs.Evict.{seek}
-use Rattle.gather.specs.Removal.{found, removed}
-use Rattle.work.specs.Work.{seated}
+use Rattle.clearing.specs.Removal.{found, removed}
+use Rattle.pair.specs.PairWork.{seated}
 use Rattle.tree.specs.Tree.{Tree}
 use Rattle.good.proofs.OnceLaws.{Shares, Alone, Once, more, set-mem, once-set, dummy-shares}
 use Rattle.good.proofs.FitLaws.{seek-passes, at-place}

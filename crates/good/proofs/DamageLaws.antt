@@ -24,8 +24,10 @@ use Rattle.path.specs.Sizes.{leavesOf}
 use Rattle.path.specs.Path.{number, root, pathBucket, siblingOf, holds, upFrom}
 use Rattle.path.specs.Layout.{Contents}
 use Rattle.path.proofs.PathLaws.{path-root, path-band, path-parent, path-in-tree, sibling-band, sibling-in-tree, holds-own}
-use Rattle.damage.specs.Damage.{sound, pathSound, siblingsSound, kidsShown, leastsTrue}
-use Rattle.damage.specs.Damaged.{Fetched, pathDamaged}
+use Rattle.sound.specs.Sound.{sound, pathSound, siblingsSound}
+use Rattle.truth.specs.Leasts.{kidsShown, leastsTrue}
+use Rattle.sound.specs.Fetched.{Fetched}
+use Rattle.damage.specs.Damaged.{pathDamaged}
 use Rattle.damage.proofs.DamagedLaws.{PathGood, not-damaged}
 use Rattle.tree.specs.Tree.{Tree, wayOf, slotsOn, besideOf}
 use Rattle.tree.proofs.JoinLaws.{levelOf, joined-levels}

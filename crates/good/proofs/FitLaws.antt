@@ -17,7 +17,7 @@ use Rattle.record.specs.declared.Leaf.{Leaf}
 use Rattle.record.specs.declared.Record.{Record}
 use Rattle.record.specs.Standing.{dummy, isDummy}
 use Rattle.way.specs.Evict.{seek, fits, movedTo, pull, pulls, evictUp, evict}
-use Rattle.way.specs.Least.{slotsAt}
+use Rattle.least.specs.Least.{slotsAt}
 use Rattle.way.proofs.EvictLaws.{length-pulls}
 use Rattle.tree.proofs.JoinLaws.{levelOf}
 

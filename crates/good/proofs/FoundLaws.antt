@@ -17,16 +17,17 @@ use Rattle.record.specs.Order.{smallest}
 use Rattle.record.specs.Many.{every}
 use Rattle.path.specs.declared.sizes.Sizes.{Sizes}
 use Rattle.path.specs.Sizes.{leavesOf}
-use Rattle.path.specs.BucketList.{pathList, pairList}
+use Rattle.lists.specs.BucketList.{pathList, pairList}
 use Rattle.path.proofs.SizesLaws.{in-range}
 use Rattle.root.specs.Root.{rootFull}
 use Rattle.way.specs.Evict.{seek}
-use Rattle.gather.specs.Removal.{named, found}
+use Rattle.clearing.specs.Removal.{named, found}
 use Rattle.gather.specs.Shown.{wayShown}
-use Rattle.gather.proofs.RemovalLaws.{member-found, found-passes}
+use Rattle.clearing.proofs.RemovalLaws.{member-found, found-passes}
 use Rattle.judge.specs.BadParts.{stampOf}
-use Rattle.damage.specs.Damaged.{pathFetched, firstFetched, secondFetched, pathDamaged, pairDamaged}
-use Rattle.rack.specs.Copy.{fetched}
+use Rattle.sound.specs.Fetched.{pathFetched, firstFetched, secondFetched}
+use Rattle.damage.specs.Damaged.{pathDamaged, pairDamaged}
+use Rattle.copies.specs.Copy.{fetched}
 use Rattle.tree.specs.Tree.{Tree, wayOf, treeOf}
 use Rattle.tree.proofs.PathFetch.{path-way}
 use Rattle.tree.proofs.HalvesLaws.{Halves}

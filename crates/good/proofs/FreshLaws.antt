@@ -22,8 +22,8 @@ use Rattle.path.specs.Path.{bucket, number, root as theRoot, lowerChild, upperC
 use Rattle.path.specs.Layout.{Contents, freshTree}
 use Rattle.path.proofs.SizesLaws.{in-range}
 use Rattle.judge.specs.BadParts.{stampOf}
-use Rattle.rack.proofs.LayoutLaws.{in-tree}
-use Rattle.rack.proofs.RackLaws.{fresh-length, fresh-bucket}
+use Rattle.copies.proofs.LayoutLaws.{in-tree}
+use Rattle.copies.proofs.ContentsLaws.{fresh-length, fresh-bucket}
 use Rattle.tree.specs.Tree.{Tree, InTree, treeOf}
 use Rattle.tree.proofs.PathLaws.{same-or}
 use Rattle.tree.proofs.PathFetch.{tree-root, tree-below}

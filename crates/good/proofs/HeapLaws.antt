@@ -13,17 +13,18 @@ use Rattle.record.specs.declared.Record.{Record}
 use Rattle.record.specs.Standing.{isDummy, isProper}
 use Rattle.path.specs.declared.sizes.Sizes.{Sizes}
 use Rattle.path.specs.Sizes.{leavesOf}
-use Rattle.path.specs.BucketList.{pathList, pairList}
+use Rattle.lists.specs.BucketList.{pathList, pairList}
 use Rattle.path.proofs.SizesLaws.{in-range}
 use Rattle.way.specs.Evict.{seek}
-use Rattle.gather.specs.Removal.{found, removed}
+use Rattle.clearing.specs.Removal.{found, removed}
 use Rattle.gather.specs.Shown.{siblingsShown, slotsShown, wayShown}
-use Rattle.gather.proofs.RemovalLaws.{removed-length}
+use Rattle.clearing.proofs.RemovalLaws.{removed-length}
 use Rattle.mend.specs.Mended.{pathWords, besideAt}
 use Rattle.judge.specs.BadParts.{stampOf}
-use Rattle.work.specs.Work.{rootAfter, leastAfter, removalBuckets, removalRoot, removalLeast, rooted}
-use Rattle.work.specs.Work.{firstBuckets, secondWay, secondBeside, secondBuckets, firstSiblings, secondSiblings}
-use Rattle.rack.specs.Copy.{fetched, stored}
+use Rattle.work.specs.PathWork.{rootAfter, leastAfter}
+use Rattle.work.specs.RemovalWork.{removalBuckets, removalRoot, removalLeast, rooted}
+use Rattle.pair.specs.PairWork.{firstBuckets, secondWay, secondBeside, secondBuckets, firstSiblings, secondSiblings}
+use Rattle.copies.specs.Copy.{fetched, stored}
 use Rattle.tree.specs.Tree.{Tree, wayOf, treeOf}
 use Rattle.tree.proofs.PathFetch.{path-way}
 use Rattle.tree.proofs.Removal.{root-after-length, removal-stored-length, tree-way-length}

@@ -19,7 +19,7 @@ use Rattle.path.specs.declared.sizes.Sizes.{Sizes}
 use Rattle.path.specs.Sizes.{leavesOf}
 use Rattle.path.specs.Path.{root, pathBucket}
 use Rattle.way.specs.Evict.{seek}
-use Rattle.work.specs.Work.{seated}
+use Rattle.pair.specs.PairWork.{seated}
 use Rattle.damage.specs.Damaged.{pairDamaged}
 use Rattle.damage.proofs.DamagedLaws.{pair-not-damaged}
 use Rattle.tree.specs.Tree.{Tree, InTree, wayOf, slotsOn}

@@ -14,15 +14,18 @@ use Rattle.path.specs.declared.sizes.Sizes.{Sizes}
 use Rattle.path.specs.Sizes.{leavesOf}
 use Rattle.path.specs.Path.{root as theRoot}
 use Rattle.path.specs.Layout.{Contents, treeWords}
-use Rattle.path.specs.BucketList.{pairList}
+use Rattle.lists.specs.BucketList.{pairList}
 use Rattle.way.specs.Evict.{seek}
 use Rattle.gather.specs.Shown.{slotsShown, wayShown}
 use Rattle.gather.proofs.ShownLaws.{slots-split}
 use Rattle.mend.specs.Mended.{pathWords}
-use Rattle.work.specs.Work.{rootAfter, leastAfter, firstBuckets, secondWay, secondBeside, secondBuckets, firstSiblings, secondSiblings, rooted}
-use Rattle.damage.specs.Damaged.{firstFetched, secondFetched, pairDamaged}
+use Rattle.work.specs.PathWork.{rootAfter, leastAfter}
+use Rattle.pair.specs.PairWork.{firstBuckets, secondWay, secondBeside, secondBuckets, firstSiblings, secondSiblings}
+use Rattle.work.specs.RemovalWork.{rooted}
+use Rattle.sound.specs.Fetched.{firstFetched, secondFetched}
+use Rattle.damage.specs.Damaged.{pairDamaged}
 use Rattle.damage.proofs.FetchedLaws.{pair-alike}
-use Rattle.rack.specs.Copy.{fetched, stored}
+use Rattle.copies.specs.Copy.{fetched, stored}
 use Rattle.tree.specs.Tree.{Tree, wayOf, treeOf}
 use Rattle.tree.specs.Work.{inserted}
 use Rattle.tree.proofs.PathFetch.{tree-root}

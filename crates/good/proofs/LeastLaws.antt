@@ -19,7 +19,7 @@ use Rattle.path.specs.Sizes.{leavesOf}
 use Rattle.path.specs.Path.{bucket, number, pathBucket, siblingOf, lowerChild, upperChild}
 use Rattle.path.specs.Layout.{Contents}
 use Rattle.path.proofs.PathLaws.{path-band, path-parent, path-in-tree, sibling-off}
-use Rattle.way.specs.Least.{slotsAt, inOrder, kids}
+use Rattle.least.specs.Least.{slotsAt, inOrder, kids}
 use Rattle.tree.specs.Tree.{Tree, InTree, besideOf}
 use Rattle.tree.specs.Path.{OffPath}
 use Rattle.tree.proofs.PathLaws.{Lays, path-or, child-off}

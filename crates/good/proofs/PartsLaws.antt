@@ -27,7 +27,7 @@ use Rattle.path.proofs.PathLaws.{path-root, path-in-tree, levels-apart, holds-o
 use Rattle.way.specs.Evict.{fits, evict}
 use Rattle.way.proofs.EvictLaws.{length-evict}
 use Rattle.way.proofs.KeptLaws.{evict-keeps}
-use Rattle.way.proofs.LeastLaws.{length-slots}
+use Rattle.least.proofs.LeastLaws.{length-slots}
 use Rattle.tree.specs.Tree.{Tree, InTree, slotsOn, wayOf, joined}
 use Rattle.tree.specs.Path.{OnPath, OffPath}
 use Rattle.tree.proofs.JoinLaws.{levelOf, Sized, level-joined, joined-level, joined-length, joined-levels, levels-joined}

@@ -8,7 +8,7 @@ use Rattle.record.specs.declared.Stamp.{Stamp}
 use Rattle.record.specs.declared.Record.{Record}
 use Rattle.record.specs.Standing.{isDummy, same}
 use Rattle.record.proofs.StandingLaws.{same-true}
-use Rattle.gather.specs.Removal.{named}
+use Rattle.clearing.specs.Removal.{named}
 
 -- what passes is no dummy and has this stamp
 abbrev pub Picks : (Record → Bool) → Stamp → Type 0

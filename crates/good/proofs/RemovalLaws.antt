@@ -13,14 +13,15 @@ use Rattle.path.specs.declared.sizes.Sizes.{Sizes}
 use Rattle.path.specs.Sizes.{leavesOf}
 use Rattle.path.specs.Path.{root as theRoot}
 use Rattle.path.specs.Layout.{Contents, treeWords}
-use Rattle.path.specs.BucketList.{pathList}
-use Rattle.gather.specs.Removal.{found}
+use Rattle.lists.specs.BucketList.{pathList}
+use Rattle.clearing.specs.Removal.{found}
 use Rattle.gather.specs.Shown.{siblingsShown, wayShown}
 use Rattle.mend.specs.Mended.{pathWords}
-use Rattle.work.specs.Work.{removalBuckets, removalRoot, removalLeast, rooted}
-use Rattle.damage.specs.Damaged.{pathFetched, pathDamaged}
+use Rattle.work.specs.RemovalWork.{removalBuckets, removalRoot, removalLeast, rooted}
+use Rattle.sound.specs.Fetched.{pathFetched}
+use Rattle.damage.specs.Damaged.{pathDamaged}
 use Rattle.damage.proofs.FetchedLaws.{path-alike}
-use Rattle.rack.specs.Copy.{fetched, stored}
+use Rattle.copies.specs.Copy.{fetched, stored}
 use Rattle.tree.specs.Tree.{Tree, wayOf, treeOf}
 use Rattle.tree.specs.Work.{taken}
 use Rattle.tree.proofs.PathFetch.{tree-root, path-shows, path-sibling, path-way}

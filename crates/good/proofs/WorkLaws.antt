@@ -18,8 +18,8 @@ use Rattle.path.specs.declared.sizes.Sizes.{Sizes}
 use Rattle.path.specs.Sizes.{leavesOf}
 use Rattle.path.specs.Path.{pathBucket}
 use Rattle.way.specs.Evict.{seek, evict}
-use Rattle.gather.specs.Removal.{found, removed}
-use Rattle.gather.proofs.RemovalLaws.{member-found, found-passes}
+use Rattle.clearing.specs.Removal.{found, removed}
+use Rattle.clearing.proofs.RemovalLaws.{member-found, found-passes}
 use Rattle.tree.specs.Tree.{Tree, InTree, wayOf, slotsOn, besideOf}
 use Rattle.tree.specs.Path.{OffPath}
 use Rattle.tree.specs.Work.{worked, taken}

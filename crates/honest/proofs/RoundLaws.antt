@@ -1,22 +1,22 @@
 -- A round on a ready card and its tree gives the number that the request's own rules give, and no other: neither 11 nor 12, nor 2, 3 or 13.
 -- Assumes nothing.
 use Prim.Native.Nat.{ℕ, zero, suc, _+_, _*_, _≤_}
-use mathlib.Core.Bool.{Bool, true, false, cond, and-eq-true-iff, true≢false}
+use mathlib.Core.Bool.{Bool, true, false, cond, _&&_, and-eq-true-iff}
 use mathlib.Core.List.{List, [], _∷_}
 use mathlib.Core.Path.{_≡_, refl, sym, subst, _∙_}
 use native.Mathlib.Omega.{arith}
 use native.Mathlib.Nat.{mul-le-mul-right}
+use lib.Dec.{leb}
 use lib.ListN.{length}
+use borrow.Author.Tests.{leb-true, ne-eqb}
 use Rattle.record.specs.declared.Record.{Record}
-use Rattle.path.specs.declared.sizes.Sizes.{Sizes}
-use Rattle.path.specs.declared.list.Listed.{Listed as Counts}
-use Rattle.path.specs.Sizes.{treeIn, inRange}
+use Rattle.lists.specs.declared.Listed.{Listed as Counts}
 use Rattle.path.specs.Layout.{bucketWords}
-use Rattle.path.specs.BucketList.{BucketList, counts, laid, fetchedFor}
-use Rattle.path.proofs.SizesLaws.{in-range}
+use Rattle.lists.specs.BucketList.{BucketList, counts, laid, fetchedFor}
+use Rattle.path.proofs.SizesLaws.{in-range, tree-range}
 use Rattle.refusal.specs.Refusal.{Refusal, row, firstGiven}
-use Rattle.settle.specs.Left.{Left, wordsLeft}
-use Rattle.rack.specs.Copy.{fetched, stored}
+use Rattle.settle.specs.Left.{wordsLeft}
+use Rattle.copies.specs.Copy.{fetched, stored}
 use Rattle.rack.proofs.ListedLaws.{laid-passes}
 use Rattle.card.specs.declared.Card.{Card}
 use Rattle.request.specs.declared.Waiting.{Waiting}
@@ -26,15 +26,15 @@ use Rattle.card.specs.Tables.{requestTable}
 use Rattle.request.specs.Tables.{countsFor}
 use Rattle.card.specs.Calls.{withWaiting, listOf, beginTable}
 use Rattle.card.specs.Answers.{orRefused}
-use Rattle.card.specs.Finish.{leftBy, finishTable, cardLeft, finishedBy}
+use Rattle.card.specs.Finish.{leftBy, finishTable, cardLeft}
 use Rattle.card.proofs.CallLaws.{same-list}
 use Rattle.card.proofs.BeginLaws.{counts-for, counts-few, request-refused, room-enough}
-use Rattle.rounds.specs.Round.{orElse, listPlaces, wordPlaces, rackRefusal, finishRefusal, treeLeft, roundRefusal, roundDone, roundTree}
+use Rattle.rounds.specs.Round.{listPlaces, wordPlaces, rackRefusal, finishRefusal, treeLeft, roundRefusal, roundDone, roundTree}
 use Rattle.rounds.proofs.RoundLaws.{or-first, or-second}
 use Rattle.served.specs.Ready.{Ready}
 use Rattle.served.specs.LiveAfter.{liveAfter}
 use Rattle.served.proofs.CallLaws.{ready-card, begin-ready}
-use Rattle.served.proofs.FinishedLaws.{WordKey, finish-passes, finish-ready}
+use Rattle.served.proofs.FinishedLaws.{WordKey, finished-card, finish-passes, finish-ready}
 use Rattle.served.proofs.RackLaws.{list-inside, fetched-room}
 use Rattle.honest.specs.Seen.{ownNumber}
 
@@ -53,14 +53,16 @@ words-few : (h z : ℕ) (w : Waiting) → h ≤ 16 → z ≤ 5 → fetchedFor z 
 words-few h z w l m =
     product-few (countsFor h w .whole) (bucketWords z) (countsFor h w .least) (counts-few h w l .0) (omega arith) (least-few h w l)
 
-tree-range : (s : Sizes) → inRange s ≡ true → treeIn (s .h) (s .z) ≡ true
-unfolding inRange
-tree-range s e = and-eq-true-iff (treeIn (s .h) (s .z)) _ .0 e .0
-
 -- ---- the request's own rules
 pick : (b : Bool) (n rest : ℕ) → ownNumber n ≡ true → ownNumber rest ≡ true → ownNumber (cond b n rest) ≡ true
 pick true n rest p q = p
 pick false n rest p q = q
+
+pub own-range : (n : ℕ) → ownNumber n ≡ true → (n ≡ 0 → ⊥) → (4 ≤ n) × (n ≤ 10)
+own-range n e h =
+    let some : (leb 4 n && leb n 10) ≡ true = rw (ne-eqb n 0 h) at e in
+    let both = and-eq-true-iff (leb 4 n) _ .0 some in
+    (leb-true 4 n (both .0), leb-true n 10 (both .1))
 
 -- a table of such numbers
 data Own : List Refusal → Type 0 where
@@ -81,14 +83,6 @@ request-rows k (Delete label stamp) = next 4 refl (next 6 refl (next 7 refl over
 
 pub request-own : (k : Card) (w : Waiting) → ownNumber (firstGiven (requestTable k w)) ≡ true
 request-own k w = first-own (request-rows k w)
-
--- ---- what a finish hands back
-finished-card : (k : Card) (w : Waiting) (l : Left) → waits w ≡ true → finishedBy k w l .card ≡ cardLeft k l
-unfolding finishedBy waits
-finished-card k Nothing l e = absurd (true≢false (sym e))
-finished-card k (Insert key value label first second) l e = refl
-finished-card k Extract l e = refl
-finished-card k (Delete label stamp) l e = refl
 
 -- ---- a round
 module _

@@ -5,7 +5,6 @@ use mathlib.Core.Bool.{false}
 use mathlib.Core.List.{List, [], _∷_, _++_, append-assoc, append-nil}
 use mathlib.Core.Path.{_≡_, refl, ap, _∙_}
 use native.Mathlib.Omega.{arith}
-use lib.Dec.{ltb}
 use lib.ListN.{length, getD, take, drop, length-append, length-drop, drop-of-length-le}
 use lib.Seq.{take-at, take-all, drop-cons}
 use borrow.Rule.Slice.PartAt.{part-to-end}
@@ -21,26 +20,10 @@ use Rattle.card.specs.declared.Card.{Card}
 use Rattle.request.specs.declared.Waiting.{Waiting}
 use Rattle.request.specs.declared.Waiting.the-variants.{Nothing, Insert, Extract, Delete}
 use Rattle.card.specs.Tables.{cardOf}
-use Rattle.image.specs.Image.{requestWords, headOf, imageOf}
-use Rattle.image.specs.Reading.{waitingOf, waitingIn, cardIn, oddKind}
-
--- ---- the request's six words
-pub request-words : (w : Waiting)
-    → getD (requestWords w) 0 0 ∷ getD (requestWords w) 1 0 ∷ getD (requestWords w) 2 0 ∷ getD (requestWords w) 3 0
-    ∷ getD (requestWords w) 4 0 ∷ getD (requestWords w) 5 0 ∷ []
-    ≡ requestWords w
-unfolding requestWords
-request-words Nothing = refl
-request-words (Insert key value label first second) = refl
-request-words Extract = refl
-request-words (Delete label stamp) = refl
-
-pub request-length : (w : Waiting) → length (requestWords w) ≡ 6
-unfolding requestWords
-request-length Nothing = refl
-request-length (Insert key value label first second) = refl
-request-length Extract = refl
-request-length (Delete label stamp) = refl
+use Rattle.kinds.specs.Kinds.{requestWords, waitingOf}
+use Rattle.kinds.proofs.KindLaws.{request-length, even-request}
+use Rattle.image.specs.Image.{headOf, imageOf}
+use Rattle.image.specs.Reading.{waitingIn, cardIn, oddKind}
 
 head-length : (s : Sizes) (t c : ℕ) (w : Waiting) → length (headOf s t c w) ≡ 12
 head-length s t c w = omega (arith, request-length w)
@@ -118,13 +101,6 @@ parts-read s t c (Delete label stamp) least root = ap (λ (l : List Record). car
 pub card-image : (k : Card) → cardIn (imageOf k) ≡ k
 unfolding imageOf
 card-image k = parts-read (k .sizes) (k .t) (k .c) (k .waiting) (k .least) (k .root)
-
-even-request : (w : Waiting) (rest : List ℕ) → ltb 3 (getD (requestWords w ++ rest) 0 0) ≡ false
-unfolding requestWords
-even-request Nothing rest = refl
-even-request (Insert key value label first second) rest = refl
-even-request Extract rest = refl
-even-request (Delete label stamp) rest = refl
 
 -- its kind is one of the four
 pub image-even : (k : Card) → oddKind (imageOf k) ≡ false

@@ -1,18 +1,11 @@
 -- The card as 272 words: what document 01 says a card holds, in the order in which a driver keeps it. Assumes nothing.
 use Prim.Native.Nat.{ℕ}
-use mathlib.Core.List.{List, [], _∷_, _++_}
+use mathlib.Core.List.{List, _∷_, _++_}
 use Rattle.record.specs.Words.{wordsOf}
 use Rattle.path.specs.declared.sizes.Sizes.{Sizes}
 use Rattle.card.specs.declared.Card.{Card}
 use Rattle.request.specs.declared.Waiting.{Waiting}
-use Rattle.request.specs.declared.Waiting.the-variants.{Nothing, Insert, Extract, Delete}
-
--- "the waiting request, if any": its kind and five fields; a field that the kind has not got is 0
-unfoldable pub requestWords : Waiting → List ℕ
-requestWords Nothing = 0 ∷ 0 ∷ 0 ∷ 0 ∷ 0 ∷ 0 ∷ []
-requestWords (Insert key value label first second) = 1 ∷ key ∷ value ∷ label .0 ∷ first .0 ∷ second .0 ∷ []
-requestWords Extract = 2 ∷ 0 ∷ 0 ∷ 0 ∷ 0 ∷ 0 ∷ []
-requestWords (Delete label stamp) = 3 ∷ label .0 ∷ stamp .0 ∷ 0 ∷ 0 ∷ 0 ∷ []
+use Rattle.kinds.specs.Kinds.{requestWords}
 
 -- "sizes, the count t of finished requests, the count c of live events", and the waiting request: 12 words
 abbrev pub headOf : Sizes → ℕ → ℕ → Waiting → List ℕ

@@ -2,27 +2,17 @@
 // comes out of it".
 //
 // Words 0 to 3 are h, Z, R and T, 4 and 5 are t and c, 6 is the kind of the waiting request and 7 to 11 are its fields; the
-// root's least record follows, then the root's 64 places. Fields that a kind does not use are ignored coming in and 0
-// going out. Stands on `record`, `path`, `card` and, for the root's places, on `gather`.
+// root's least record follows, then the root's 64 places. Stands on `record`, `path`, `card`, `kinds` and, for the root's places,
+// on `gather`.
 ghost use mathlib.Core.Path.{_≡_};
 ghost use lib.ListN.{length};
-ghost use Rattle.image.specs.Image.{requestWords, headOf, imageOf};
-ghost use Rattle.image.specs.Reading.{waitingOf, cardIn, oddKind};
+ghost use Rattle.image.specs.Image.{headOf, imageOf};
+ghost use Rattle.image.specs.Reading.{cardIn, oddKind};
 use card::Card;
+use kinds::KIND_DELETE;
 use path::Sizes;
-use record::Leaf;
 use record::Record;
-use record::Stamp;
 use request::Waiting;
-
-// The kinds of a waiting request. A card is never read with another: whoever lends one is told that it is bad.
-pub const KIND_NOTHING: u64 = 0;
-
-pub const KIND_INSERT: u64 = 1;
-
-pub const KIND_EXTRACT: u64 = 2;
-
-pub const KIND_DELETE: u64 = 3;
 
 // The word that holds the kind.
 const KIND_AT: usize = 6;
@@ -42,54 +32,11 @@ pub fn is_odd(words: &[u64; 272]) -> bool
     words[KIND_AT] > KIND_DELETE
 }
 
-// The request of a kind and five fields; of a kind above 3 it makes none.
-fn waiting_of(kind: u64, a: u64, b: u64, c: u64, d: u64, e: u64) -> Waiting
-    ensures { λ w. ⌜ w ≡ waitingOf kind a b c d e ⌝ }
-{
-    if kind == KIND_INSERT {
-        return Waiting::Insert {
-            key: a,
-            value: b,
-            label: Leaf(c),
-            first: Leaf(d),
-            second: Leaf(e),
-        };
-    }
-    if kind == KIND_EXTRACT {
-        return Waiting::Extract;
-    }
-    if kind == KIND_DELETE {
-        return Waiting::Delete {
-            label: Leaf(a),
-            stamp: Stamp(b),
-        };
-    }
-    Waiting::Nothing
-}
-
-// Its kind and its five fields, 0 where the kind has fewer.
-fn request_words(waiting: Waiting) -> [u64; 6]
-    ensures { λ r. ⌜ r ≡ requestWords waiting ⌝ }
-{
-    match waiting {
-        Waiting::Nothing => [KIND_NOTHING, 0, 0, 0, 0, 0],
-        Waiting::Insert {
-            key,
-            value,
-            label,
-            first,
-            second,
-        } => [KIND_INSERT, key, value, label.0, first.0, second.0],
-        Waiting::Extract => [KIND_EXTRACT, 0, 0, 0, 0, 0],
-        Waiting::Delete { label, stamp } => [KIND_DELETE, label.0, stamp.0, 0, 0, 0],
-    }
-}
-
 // The words before the records.
 fn head_words(sizes: Sizes, t: u64, c: u64, waiting: Waiting) -> [u64; 12]
     ensures { λ r. ⌜ r ≡ headOf sizes t c waiting ⌝ }
 {
-    let q = request_words(waiting);
+    let q = kinds::request_words(waiting);
     [
         sizes.h,
         sizes.z,
@@ -116,7 +63,7 @@ fn read_slice(words: &[u64]) -> Card
         r: words[2],
         t: words[3],
     };
-    let waiting = waiting_of(
+    let waiting = kinds::waiting_of(
         words[KIND_AT],
         words[7],
         words[8],

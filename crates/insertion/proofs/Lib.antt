@@ -1,2 +1,2 @@
--- The laws of Insert's finish.
-pub mod InsertionLaws
+-- The laws of an Insert's stores.
+pub mod StoreLaws

@@ -1,8 +1,9 @@
 -- A card's parts that are not bad, fact by fact: what they tell, and what makes them so. Assumes nothing.
 use Prim.Native.Nat.{ℕ, _≤_}
-use mathlib.Core.Bool.{Bool, true, false, _||_, true≢false}
+use mathlib.Core.Bool.{true, false, _||_}
 use mathlib.Core.List.{List}
-use mathlib.Core.Path.{_≡_, refl}
+use mathlib.Core.Path.{_≡_}
+use mathlib.Mathlib.Data.Bool.Basic.{or-eq-false-eq-eq-false-and-eq-false as neither}
 use lib.ListN.{take, drop}
 use borrow.Author.Tests.{ltb-false, le-ltb, not-false}
 use Rattle.record.specs.declared.Record.{Record}
@@ -25,24 +26,19 @@ pub record Fit (s : Sizes) (t c : ℕ) (root : List Record) (least : Record) : T
   pub odd : oddLeast (leavesOf (s .h)) (stampOf t) c least ≡ false
   pub first : every (λ x. isDummy x || noLater least x) (take (s .r) root) ≡ true
 
--- neither of two
-pub neither : (a b : Bool) → (a || b) ≡ false → (a ≡ false) × (b ≡ false)
-neither false b e = (refl, e)
-neither true b e = absurd (true≢false e)
-
 module _ (s : Sizes) (t c : ℕ) (root : List Record) (least : Record) where
   pub fit : badParts s t c root least ≡ false → Fit s t c root least
   unfolding badParts strangeSlot usedPast stampShared rootRecords greaterThanSome
   fit e =
-      let a = neither (badSizes s t c root least) _ e in
-      let b = neither (overSpent s t c root least) _ (a .1) in
-      let l = neither (overLive s t c root least) _ (b .1) in
-      let d = neither (badRoot s t c root least) (badLeast s t c root least) (l .1) in
-      let m = neither _ _ (l .0) in
-      let f = neither _ _ (d .0) in
-      let p = neither _ _ (f .1) in
-      let n = neither _ _ (p .1) in
-      let o = neither _ _ (d .1) in
+      let a = neither (badSizes s t c root least) _ .0 e in
+      let b = neither (overSpent s t c root least) _ .0 (a .1) in
+      let l = neither (overLive s t c root least) _ .0 (b .1) in
+      let d = neither (badRoot s t c root least) (badLeast s t c root least) .0 (l .1) in
+      let m = neither _ _ .0 (l .0) in
+      let f = neither _ _ .0 (d .0) in
+      let p = neither _ _ .0 (f .1) in
+      let n = neither _ _ .0 (p .1) in
+      let o = neither _ _ .0 (d .1) in
       record {
         sizes = not-false _ (a .0);
         spent = ltb-false _ _ (b .0);

@@ -1,6 +1,6 @@
 // BadCard on a card's parts, all but the waiting request: document 01, "Refusal numbers". The root goes in as words, four to
 // a place, so that nothing copies 64 records. The card that a call is given and the card that a finish would send out are
-// judged by the same function. Stands on `record`, `path`, `root`, `way`.
+// judged by the same function. Stands on `record`, `path`, `root`, `stamps`.
 ghost use mathlib.Core.Path.{_≡_};
 ghost use Prim.Native.Nat.{_≤_};
 ghost use lib.ListN.{length};
@@ -39,7 +39,7 @@ fn is_root_bad(root: &[u64], r: usize, n: u64, next: Stamp, c: u64, least: Recor
     if !root::all_dummies(&root[end..], ROOT_PLACES - r) {
         return true;
     }
-    way::stamp_twice(&root[..end])
+    stamps::stamp_twice(&root[..end])
 }
 
 // For crates above: BadCard but for the waiting request, whatever the numbers are.

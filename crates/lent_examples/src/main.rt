@@ -8,7 +8,7 @@ use card::Answer;
 use card::Card;
 use card::Done;
 use libc::STDOUT_FILENO;
-use turns::Reply;
+use steps::Reply;
 
 // The longest reply has 106 bytes.
 const REPLY_ROOM: usize = 128;

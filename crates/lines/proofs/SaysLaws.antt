@@ -8,20 +8,21 @@ use lib.Dec.{eqb, eqb·suc-zero}
 use lib.ListN.{length, take, drop}
 use borrow.Author.Tests.{le-leb, lt-leb}
 use Rattle.lines.specs.declared.Line.the-variants.{Unreadable, Min, Extract}
-use Rattle.lines.specs.Pieces.{before, same}
-use Rattle.lines.specs.Says.{Kind, kinds, minKind, extractKind, allNumbers, saidOf, saidBy, lineSays}
-use Rattle.lines.specs.Behind.{behind, Numbered}
-use Rattle.lines.proofs.PiecesLaws.{before-fits, before-head, fields-first, behind-none, behind-next}
+use Rattle.fields.specs.Pieces.{before, same}
+use Rattle.fields.specs.Behind.{behind, allNumbers, Numbered}
+use Rattle.fields.proofs.PiecesLaws.{before-fits, before-head, fields-first, behind-none, behind-next}
+use Rattle.fields.proofs.NumbersLaws.{all-written}
+use Rattle.lines.specs.Says.{Kind, kinds, minKind, extractKind, saidOf, saidBy, lineSays}
 
 -- ---- a kind and the fields behind its word
-module _ (k : Kind) (fields : List (List ℕ)) (written : List ℕ) where
-  pub unsaid : (t : Bool) → Numbered fields (k .count) t written → t ≡ false → Unreadable ≡ saidOf k fields
+module _ (k : Kind) (fields : List (List ℕ)) (places after : List ℕ) (t : Bool) (n : Numbered fields places t after) (size : length places ≡ k .count) where
+  pub unsaid : t ≡ false → Unreadable ≡ saidOf k fields
   unfolding saidOf
-  unsaid t n e = rw (sym (n .told) ∙ e)
+  unsaid e = rw (← size, sym (n .told) ∙ e)
 
-  pub said : (t : Bool) → Numbered fields (k .count) t written → t ≡ true → k .says written ≡ saidOf k fields
+  pub said : t ≡ true → k .says after ≡ saidOf k fields
   unfolding saidOf
-  said t n e = rw (sym (n .told) ∙ e, n .these e)
+  said e = rw (← size, sym (n .told) ∙ e, n .these ∙ all-written fields places (sym (n .told) ∙ e))
 
 -- a word that stands alone
 module _ (line : List ℕ) (from : ℕ) where

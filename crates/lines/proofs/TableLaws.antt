@@ -9,8 +9,9 @@ use Rattle.record.specs.declared.Stamp.{Stamp}
 use Rattle.decimal.specs.Digits.{valueFrom}
 use Rattle.decimal.specs.Field.{allDigits, isNumber}
 use Rattle.lines.specs.declared.Line.the-variants.{Unreadable, Size, Insert, Min, Extract, Delete}
-use Rattle.lines.specs.Pieces.{pieces, linesOf, same}
-use Rattle.lines.specs.Says.{allNumbers, saidOf, saidBy, lineSays}
+use Rattle.fields.specs.Pieces.{pieces, same}
+use Rattle.fields.specs.Behind.{allNumbers}
+use Rattle.lines.specs.Says.{linesOf, saidOf, saidBy, lineSays}
 
 abbrev leaf : ℕ → Leaf
 leaf q = record { 0 = q }

@@ -1,16 +1,21 @@
 -- What a line says: document 01, "What the desk sees". Assumes nothing.
 use Prim.Native.Nat.{ℕ}
-use mathlib.Core.Bool.{Bool, true, cond, _&&_}
+use mathlib.Core.Bool.{cond, _&&_}
 use mathlib.Core.List.{List, [], _∷_, map}
 use lib.Dec.{eqb, leb}
 use lib.ListN.{length, getD}
 use Rattle.record.specs.declared.Leaf.{Leaf}
 use Rattle.record.specs.declared.Stamp.{Stamp}
 use Rattle.decimal.specs.Digits.{value}
-use Rattle.decimal.specs.Field.{isNumber}
-use Rattle.lines.specs.Pieces.{fieldsOf, same}
+use Rattle.fields.specs.Pieces.{pieces, fieldsOf, same}
+use Rattle.fields.specs.Behind.{allNumbers}
 use Rattle.lines.specs.declared.Line.{Line}
 use Rattle.lines.specs.declared.Line.the-variants.{Unreadable, Size, Insert, Min, Extract, Delete}
+
+-- the lines of an input: "A line ends at byte 10", "the last line may lack its line end"; what stands behind the last byte 10 is a line
+-- only if it is not empty
+abbrev pub linesOf : List ℕ → List (List ℕ)
+linesOf = pieces 10 []
 
 -- "A line it can't read, one over 128 bytes"
 abbrev pub lineMost : ℕ
@@ -65,11 +70,6 @@ deleteKind = record {
 
 abbrev pub kinds : List Kind
 kinds = sizeKind ∷ insertKind ∷ minKind ∷ extractKind ∷ deleteKind ∷ []
-
--- "numbers are plain decimal below 2^64 without leading zeros"
-unfoldable pub allNumbers : List (List ℕ) → Bool
-allNumbers [] = true
-allNumbers (f ∷ fs) = isNumber f && allNumbers fs
 
 -- the fields behind the word are numbers, and just as many as the word asks for
 unfoldable pub saidOf : Kind → List (List ℕ) → Line

@@ -1,8 +1,6 @@
-// What a line of the desk says: document 01, "What the desk sees". Stands on `record` and `decimal`.
-mod fields;
+// What a line of the desk says: document 01, "What the desk sees". Stands on `record` and `fields`.
 mod says;
 
-pub use fields::end_of;
 use record::Leaf;
 use record::Stamp;
 pub use says::read_line;
@@ -33,6 +31,3 @@ pub enum Line {
 
 // The most bytes that a line may have, its end not counted.
 pub const LINE_MOST: usize = 128;
-
-// Parts the fields of a line.
-pub const SPACE: u8 = 32;

@@ -1,19 +1,16 @@
 // What a line says: document 01, "What the desk sees".
 ghost use mathlib.Core.Path.{_≡_};
-ghost use Prim.Native.Nat.{_≤_};
-ghost use lib.ListN.{length, drop};
-ghost use Rattle.lines.specs.Behind.{behind};
+ghost use lib.ListN.{drop};
+ghost use Rattle.fields.specs.Behind.{behind};
 ghost use Rattle.lines.specs.Says.{sizeKind, insertKind, minKind, extractKind, deleteKind, saidOf, lineSays};
 use crate::LINE_MOST;
 use crate::Line;
-use crate::SPACE;
-use crate::fields;
+use fields::SPACE;
 use record::Leaf;
 use record::Stamp;
 
 // Each of these reads what follows its word, which ends at `from`.
 fn size(line: &[u8], from: usize) -> Line
-    requires { ⌜ from ≤ length (now line) ⌝ }
     ensures { λ r. ⌜ r ≡ saidOf sizeKind (behind (drop from (now (line .entry)))) ⌝ }
 {
     let mut n = [0u64; 4];
@@ -29,7 +26,6 @@ fn size(line: &[u8], from: usize) -> Line
 }
 
 fn insert(line: &[u8], from: usize) -> Line
-    requires { ⌜ from ≤ length (now line) ⌝ }
     ensures { λ r. ⌜ r ≡ saidOf insertKind (behind (drop from (now (line .entry)))) ⌝ }
 {
     let mut n = [0u64; 5];
@@ -46,7 +42,6 @@ fn insert(line: &[u8], from: usize) -> Line
 }
 
 fn delete(line: &[u8], from: usize) -> Line
-    requires { ⌜ from ≤ length (now line) ⌝ }
     ensures { λ r. ⌜ r ≡ saidOf deleteKind (behind (drop from (now (line .entry)))) ⌝ }
 {
     let mut n = [0u64; 2];
@@ -60,7 +55,6 @@ fn delete(line: &[u8], from: usize) -> Line
 }
 
 fn min(line: &[u8], from: usize) -> Line
-    requires { ⌜ from ≤ length (now line) ⌝ }
     ensures { λ r. ⌜ r ≡ saidOf minKind (behind (drop from (now (line .entry)))) ⌝ }
 {
     if from < line.len() {
@@ -70,7 +64,6 @@ fn min(line: &[u8], from: usize) -> Line
 }
 
 fn extract(line: &[u8], from: usize) -> Line
-    requires { ⌜ from ≤ length (now line) ⌝ }
     ensures { λ r. ⌜ r ≡ saidOf extractKind (behind (drop from (now (line .entry)))) ⌝ }
 {
     if from < line.len() {

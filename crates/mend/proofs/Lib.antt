@@ -1,4 +1,4 @@
--- The laws of least records in words and of the stores that crates above cite.
-pub mod StoreLaws
+-- The laws of least records in words that crates above cite.
+pub mod BucketLaws
 pub mod MendLaws
 pub mod PartLaws

@@ -18,8 +18,8 @@ use Rattle.record.proofs.WordsLaws.{records-at, records-words}
 use Rattle.path.specs.declared.sizes.Sizes.{Sizes}
 use Rattle.path.specs.Layout.{Contents, contentsWords, bucketWords}
 use Rattle.path.specs.Path.{pathBucket, upFrom}
-use Rattle.way.specs.Least.{slotsAt, over, inOrder, kids, mendedAt}
-use Rattle.way.proofs.LeastLaws.{smallest-over}
+use Rattle.least.specs.Least.{slotsAt, over, inOrder, kids, mendedAt}
+use Rattle.least.proofs.LeastLaws.{smallest-over}
 use Rattle.way.proofs.WayLaws.{level-before, part-words}
 use Rattle.mend.specs.Mended.{pathWords, besideAt, Mended, MendRoom}
 

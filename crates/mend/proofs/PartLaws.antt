@@ -1,8 +1,8 @@
 -- Where each bucket of a path stands in its words: how long they are, and the part of the bucket at each level.
 -- Assumes nothing.
 use Prim.Native.Nat.{ℕ, zero, suc, _+_, _*_, _≤_, _<_}
-use mathlib.Core.List.{List, _++_, map, append-assoc}
-use mathlib.Core.Path.{_≡_, _∙_}
+use mathlib.Core.List.{List, [], _∷_, _++_, map, append-assoc}
+use mathlib.Core.Path.{_≡_, refl, _∙_}
 use native.Mathlib.Nat.{suc-mul, mul-le-mul-left}
 use native.Mathlib.Omega.{arith}
 use lib.ListN.{length, take, drop, length-append}
@@ -12,12 +12,18 @@ use Rattle.record.specs.declared.Record.{Record}
 use Rattle.record.proofs.WordsLaws.{words-length}
 use Rattle.path.specs.Layout.{Contents, contentsWords, bucketWords}
 use Rattle.path.specs.Path.{upFrom}
-use Rattle.way.specs.Least.{slotsAt, mendedAt, mended}
-use Rattle.way.proofs.LeastLaws.{length-slots}
+use Rattle.least.specs.Least.{slotsAt, mendedAt, mended}
+use Rattle.least.proofs.LeastLaws.{length-slots}
 use Rattle.mend.specs.Mended.{pathWords}
 
 pub length-contents : (z : ℕ) (b : Contents) → length (b .slots) ≡ z → length (contentsWords b) ≡ bucketWords z
 length-contents z b e = words-length _ ∙ omega arith
+
+-- the words of two paths' buckets
+pub path-words-append : (xs ys : List Contents) → pathWords (xs ++ ys) ≡ pathWords xs ++ pathWords ys
+unfolding pathWords
+path-words-append [] ys = refl
+path-words-append (x ∷ xs) ys = rw (path-words-append xs ys, append-assoc)
 
 -- ---- the buckets that f gives for n levels from `a` on, each of z slots
 module _ (z : ℕ) (f : ℕ → Contents) where

@@ -1,3 +1,2 @@
--- What a reader must believe of least records in words and of the stores.
+-- What a reader must believe of least records in words.
 pub mod Mended
-pub mod Stored

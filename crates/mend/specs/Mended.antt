@@ -1,5 +1,5 @@
 -- A path's buckets with their least records, in words: document 01, "Least records of the evicted paths are then worked out
--- from the leaf up, the root last." What they are is `mended` of way/specs/Least.antt. Assumes nothing.
+-- from the leaf up, the root last." What they are is `mended` of least/specs/Least.antt. Assumes nothing.
 use Prim.Native.Nat.{ℕ, _+_, _*_, _-_, _≤_, _<_}
 use mathlib.Core.List.{List, [], _∷_, _++_}
 use mathlib.Core.Path.{_≡_}
@@ -11,7 +11,7 @@ use Rattle.record.specs.Standing.{dummy}
 use Rattle.path.specs.declared.sizes.Sizes.{Sizes}
 use Rattle.path.specs.Layout.{Contents, contentsWords, bucketWords}
 use Rattle.path.specs.Sizes.{leavesOf}
-use Rattle.way.specs.Least.{slotsAt, kids, mended}
+use Rattle.least.specs.Least.{slotsAt, kids, mended}
 
 -- the words of some buckets, one after the other: for each "first its least record, then its slots"
 unfoldable pub pathWords : List Contents → List ℕ

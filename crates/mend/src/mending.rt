@@ -6,11 +6,11 @@ ghost use Prim.Native.Nat.{_+_};
 ghost use lib.ListN.{length};
 ghost use Rattle.record.specs.Words.{words4, records};
 ghost use Rattle.mend.specs.Mended.{MendRoom, Mended};
-use crate::writing::write_part;
 use path::Sizes;
 use record::Leaf;
 use record::RECORD_WORDS;
 use record::Record;
+use writing::write_part;
 
 // One bucket's words: its least record, then its slots.
 fn write_bucket(part: &mut [u64], least: Record, slots: &[u64])
@@ -37,10 +37,10 @@ pub fn mend_path(path: &mut [u64], w: &[u64], beside: &[u64], sizes: Sizes, leaf
         let first = last - size;
         let start = end - size - RECORD_WORDS;
         let slots = &w[first..last];
-        let own = way::least_over(slots, 0, z, least);
+        let own = least::least_over(slots, 0, z, least);
         write_bucket(&mut path[start..end], own, slots);
         let other = Record::read(beside, level as usize - 1);
-        least = way::kids_least(sizes.bucket_at(leaf, level), own, other);
+        least = least::kids_least(sizes.bucket_at(leaf, level), own, other);
         level -= 1;
         last = first;
         end = start;

@@ -5,19 +5,21 @@ use Rattle.record.specs.Many.{every, reals, bears, stampTwice}
 use Rattle.record.specs.Order.{noLater, smallerBy, smallestBy}
 use Rattle.record.specs.Standing.{same, isDummy, known, isProper, mayStand}
 use Rattle.record.specs.Words.{records, wordsOf}
-use Rattle.path.specs.BucketList.{pairList, pathList, sum, wordsMoved}
+use Rattle.lists.specs.BucketList.{pairList, pathList, sum, wordsMoved}
 use Rattle.path.specs.Path.{pathBucket, holds, siblingOf, upFrom, path}
 use Rattle.path.specs.Sizes.{between, treeIn, inRange}
 use Rattle.refusal.specs.Refusal.{firstGiven}
 use Rattle.root.specs.Root.{strangeSlot, usedPast, stampShared, rootRecords, greaterThanSome, rootFull}
 use Rattle.way.specs.Evict.{seek, fits, movedTo, pull, pulls, evictUp, evict}
-use Rattle.way.specs.Least.{slotsAt, inOrder, kids}
-use Rattle.gather.specs.Removal.{named, found, removed}
+use Rattle.least.specs.Least.{slotsAt, inOrder, kids}
+use Rattle.clearing.specs.Removal.{named, found, removed}
 use Rattle.gather.specs.Shown.{wholeAt, siblingAt, siblingsShown, slotsShown, wayShown}
 use Rattle.mend.specs.Mended.{pathWords}
-use Rattle.damage.specs.Damage.{sound, pathSound, siblingsSound, kidsShown, leastsTrue}
+use Rattle.sound.specs.Sound.{sound, pathSound, siblingsSound}
+use Rattle.truth.specs.Leasts.{kidsShown, leastsTrue}
 use Rattle.damage.specs.Damaged.{pathDamaged, pairDamaged}
-use Rattle.work.specs.Work.{pathBuckets, rootAfter, leastAfter, seated}
+use Rattle.work.specs.PathWork.{pathBuckets, rootAfter, leastAfter}
+use Rattle.pair.specs.PairWork.{seated}
 use Rattle.judge.specs.BadParts.{oddLeast, badParts}
 use Rattle.settle.specs.Left.{removal, insertion, removalDamaged, insertionDamaged}
 use Rattle.card.specs.Answers.{orRefused}
@@ -26,15 +28,15 @@ use Rattle.card.specs.Calls.{startTable, listOf, beginTable, minTable}
 use Rattle.card.specs.Finish.{leftBy, damagedBy, entryTable, finishedBy}
 use Rattle.request.specs.Tables.{insertRows, extractRows, deleteRows, requestRows, waits}
 use Rattle.rack.specs.Answers.{anyOutside}
-use Rattle.rack.specs.Copy.{stored}
+use Rattle.copies.specs.Copy.{stored}
 use Rattle.decimal.specs.Digits.{digits, fewest, valueFrom}
 use Rattle.decimal.specs.Field.{allDigits, isNumber}
-use Rattle.lines.specs.Behind.{behind}
-use Rattle.lines.specs.Pieces.{pieces, before, same as sameBytes}
-use Rattle.lines.specs.Says.{allNumbers, saidOf, saidBy, lineSays}
+use Rattle.fields.specs.Behind.{behind, allNumbers}
+use Rattle.fields.specs.Pieces.{pieces, before, same as sameBytes}
+use Rattle.lines.specs.Says.{saidOf, saidBy, lineSays}
 use Rattle.frames.specs.Answer.{answerLine}
 use Rattle.rounds.specs.Round.{rackRefusal, finishRefusal, treeLeft, roundRefusal, roundDone, roundTree}
-use Rattle.turns.specs.Step.{wordsOf as turnWords, sizedTo, askedFor, minOf, stepOf}
+use Rattle.steps.specs.Step.{wordsOf as turnWords, sizedTo, askedFor, minOf, stepOf}
 use Rattle.paper.specs.Run.{opened, given, stated}
 use Rattle.paper.specs.Table.{table}
 

@@ -2,10 +2,11 @@
 use Prim.Native.Nat.{ℕ}
 use mathlib.Core.List.{List, [], _∷_, _++_, map}
 use mathlib.Core.Path.{_≡_, refl, ap, _∙_}
-use Rattle.lines.specs.Pieces.{pieces, linesOf}
-use Rattle.turns.specs.Step.{Left}
+use Rattle.fields.specs.Pieces.{pieces}
+use Rattle.lines.specs.Says.{linesOf}
+use Rattle.steps.specs.Step.{Left}
 use Rattle.replies.specs.Reply.{bytesOf}
-use Rattle.sitting.specs.Output.{State, repliesTo, opened as fresh, wholeOutput}
+use Rattle.output.specs.Output.{State, repliesTo, opened as fresh, wholeOutput}
 use Rattle.paper.specs.Run.{Row, opened, nextOf, given, stated, inputOf, printsOf}
 use Rattle.paper.specs.Table.{table}
 use Rattle.paper.proofs.Paper.{paper}

@@ -4,14 +4,14 @@ use mathlib.Core.List.{List, [], _∷_, _++_}
 use lib.ListN.{length, replicate, drop}
 use Rattle.path.specs.Path.{bucket}
 use Rattle.path.specs.Layout.{recordWords}
-use Rattle.path.specs.BucketList.{numbers}
-use Rattle.rack.specs.Copy.{bucketPart}
+use Rattle.lists.specs.BucketList.{numbers}
+use Rattle.copies.specs.Copy.{bucketPart}
 use Rattle.request.specs.declared.Waiting.{Waiting}
 use Rattle.card.specs.Calls.{listOf}
 use Rattle.lines.specs.Says.{lineSays}
-use Rattle.turns.specs.Step.{Left, nothing, stepOf}
+use Rattle.steps.specs.Step.{Left, nothing, stepOf}
 use Rattle.replies.specs.Reply.{bytesOf}
-use Rattle.sitting.specs.Output.{shut}
+use Rattle.output.specs.Output.{shut}
 
 -- a line in bytes, without its end, and what it prints; then something that is looked at after it, and what that shows
 pub record Row : Type 0 where
@@ -51,8 +51,8 @@ abbrev pub none : Left → List ℕ
 none l = []
 
 -- the words of a bucket's slots, Z being 1
-abbrev pub slotsIn : ℕ → Left → List ℕ
-slotsIn n l = drop recordWords (bucketPart 1 (l .tree) (bucket n))
+abbrev pub slotsOfBucket : ℕ → Left → List ℕ
+slotsOfBucket n l = drop recordWords (bucketPart 1 (l .tree) (bucket n))
 
 -- how many buckets a request asks for whole and how many for least records, and their numbers
 abbrev pub asks : Waiting → Left → List ℕ

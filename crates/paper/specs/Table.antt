@@ -3,7 +3,7 @@ use Prim.Native.Nat.{ℕ}
 use mathlib.Core.List.{List, [], _∷_}
 use Rattle.record.specs.declared.Leaf.{Leaf}
 use Rattle.request.specs.declared.Waiting.the-variants.{Insert, Extract}
-use Rattle.paper.specs.Run.{Row, none, slotsIn, asks}
+use Rattle.paper.specs.Run.{Row, none, slotsOfBucket, asks}
 
 abbrev pub leaf : ℕ → Leaf
 leaf n = record { 0 = n }
@@ -24,7 +24,7 @@ abbrev pub row2 : Row
 row2 = record {
   line = 105 ∷ 110 ∷ 115 ∷ 101 ∷ 114 ∷ 116 ∷ 32 ∷ 55 ∷ 32 ∷ 55 ∷ 48 ∷ 32 ∷ 48 ∷ 32 ∷ 49 ∷ 32 ∷ 50 ∷ [];
   prints = 48 ∷ 32 ∷ 48 ∷ 32 ∷ 48 ∷ 32 ∷ 55 ∷ 50 ∷ 10 ∷ [];
-  look = slotsIn 2;
+  look = slotsOfBucket 2;
   shows = 7 ∷ 70 ∷ 0 ∷ 0 ∷ [];
 }
 
@@ -64,7 +64,7 @@ abbrev pub row6 : Row
 row6 = record {
   line = 101 ∷ 120 ∷ 116 ∷ 114 ∷ 97 ∷ 99 ∷ 116 ∷ [];
   prints = 48 ∷ 32 ∷ 53 ∷ 32 ∷ 53 ∷ 48 ∷ 32 ∷ 48 ∷ 32 ∷ 49 ∷ 32 ∷ 52 ∷ 48 ∷ 10 ∷ [];
-  look = slotsIn 4;
+  look = slotsOfBucket 4;
   shows = 7 ∷ 70 ∷ 0 ∷ 0 ∷ [];
 }
 

@@ -1,5 +1,3 @@
--- The laws of sizes, paths and bucket lists that crates above cite.
+-- The laws of sizes and paths that crates above cite.
 pub mod SizesLaws
 pub mod PathLaws
-pub mod Naming
-pub mod ListLaws

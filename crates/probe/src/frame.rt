@@ -1,14 +1,7 @@
-// One frame and its reply: docs/PROBE.md.
-ghost use Prim.Native.Nat.{_≤_};
-ghost use mathlib.Core.Path.{_≡_};
-ghost use lib.ListN.{length};
+// One frame and its reply: docs/PROBE.md. Each function has the room for one slice of the frame, and lends what it has read to the
+// next.
 use crate::play;
 use crate::words;
-
-// A head is the op, 8 arguments, the card and three lengths.
-const CARD_AT: usize = 9;
-
-const LENGTHS_AT: usize = 281;
 
 const LIST_MOST: usize = 128;
 
@@ -16,172 +9,133 @@ const WORDS_MOST: usize = 1024;
 
 const TREE_MOST: usize = 8192;
 
-// Room for a head and for the card in it. Of what is in them only the length is told.
-fn head_room() -> [u64; 284]
-    ensures { λ r. ⌜ 284 ≡ length r ⌝ }
-{
-    [0; 284]
-}
-
-fn card_room() -> [u64; 272]
-    ensures { λ r. ⌜ 272 ≡ length r ⌝ }
-{
-    [0; 272]
-}
-
-fn take_card(head: &[u64]) -> [u64; 272]
-    requires { ⌜ length (now head) ≡ 284 ⌝ }
-{
-    let mut card = card_room();
-    for i in 0..272 {
-        card[i] = head[CARD_AT + i];
+// A reply as far as the slices.
+fn reply(number: u64, answer: &[u64; 6], card: &[u64; 272]) -> bool {
+    if !words::write(&[number]) {
+        return false;
     }
-    card
+    if !words::write(answer) {
+        return false;
+    }
+    words::write(card)
 }
 
-fn reply(
-    number: u64,
-    answer: &[u64; 6],
+fn reply_slices(list: &[u64], buckets: &[u64], tree: &[u64]) -> bool {
+    if !words::write(list) {
+        return false;
+    }
+    if !words::write(buckets) {
+        return false;
+    }
+    words::write(tree)
+}
+
+fn answer_card(
+    asked: &[u64; 9],
+    card: &mut [u64; 272],
+    list: &mut [u64],
+    buckets: &mut [u64],
+) -> bool {
+    let mut answer = [0u64; 6];
+    let number = play::on_card(asked, card, &mut answer, list, buckets);
+    reply(number, &answer, card)
+}
+
+fn answer_rack(
+    asked: &[u64; 9],
     card: &[u64; 272],
     list: &[u64],
-    buckets: &[u64],
-    tree: &[u64],
-    space: &mut [u8],
-) -> bool
-    requires { ⌜ length (now space) ≡ 65536 ⌝ }
-    requires { ⌜ (length (now list) ≤ 128) × ((length (now buckets) ≤ 1024) × (length (now tree) ≤ 8192)) ⌝ }
-{
-    if !words::write(&[number], space) {
-        return false;
-    }
-    if !words::write(answer, space) {
-        return false;
-    }
-    if !words::write(card, space) {
-        return false;
-    }
-    if !words::write(list, space) {
-        return false;
-    }
-    if !words::write(buckets, space) {
-        return false;
-    }
-    words::write(tree, space)
-}
-
-// The slices of a frame, whose lengths its head gave.
-fn read_slices(list: &mut [u64], buckets: &mut [u64], tree: &mut [u64], space: &mut [u8]) -> bool
-    requires { ⌜ length (now space) ≡ 65536 ⌝ }
-    requires { ⌜ (length (now list) ≤ 128) × ((length (now buckets) ≤ 1024) × (length (now tree) ≤ 8192)) ⌝ }
-{
-    if !words::read(list, space) {
-        return false;
-    }
-    if !words::read(buckets, space) {
-        return false;
-    }
-    words::read(tree, space)
-}
-
-// The call and its reply.
-fn answer_call(
-    head: &[u64],
-    list: &mut [u64],
     buckets: &mut [u64],
     tree: &mut [u64],
-    space: &mut [u8],
-) -> bool
-    requires { ⌜ (length (now head) ≡ 284) × (length (now space) ≡ 65536) ⌝ }
-    requires { ⌜ (length (now list) ≤ 128) × ((length (now buckets) ≤ 1024) × (length (now tree) ≤ 8192)) ⌝ }
-{
-    let mut card = take_card(head);
+) -> bool {
     let mut answer = [0u64; 6];
-    let number = play::play(head, &mut card, &mut answer, list, buckets, tree);
-    reply(number, &answer, &card, list, buckets, tree, space)
+    let number = play::on_rack(asked, &mut answer, list, buckets, tree);
+    reply(number, &answer, card)
 }
 
-// What follows a head: the slices, the call and its reply.
-fn answer_rest(
-    head: &[u64],
+fn answer_call(
+    asked: &[u64; 9],
+    card: &mut [u64; 272],
     list: &mut [u64],
     buckets: &mut [u64],
     tree: &mut [u64],
-    space: &mut [u8],
-) -> bool
-    requires { ⌜ (length (now head) ≡ 284) × (length (now space) ≡ 65536) ⌝ }
-    requires { ⌜ (length (now list) ≤ 128) × ((length (now buckets) ≤ 1024) × (length (now tree) ≤ 8192)) ⌝ }
-{
-    if !read_slices(list, buckets, tree, space) {
-        return false;
+) -> bool {
+    if play::is_on_card(asked[0]) {
+        return answer_card(asked, card, list, buckets);
     }
-    answer_call(head, list, buckets, tree, space)
+    answer_rack(asked, card, list, buckets, tree)
 }
 
-// Room for the largest slices.
-fn list_room() -> [u64; 128]
-    ensures { λ r. ⌜ 128 ≡ length r ⌝ }
-{
-    [0; 128]
-}
-
-fn words_room() -> [u64; 1024]
-    ensures { λ r. ⌜ 1024 ≡ length r ⌝ }
-{
-    [0; 1024]
-}
-
-fn tree_room() -> [u64; 8192]
-    ensures { λ r. ⌜ 8192 ≡ length r ⌝ }
-{
-    [0; 8192]
-}
-
-// The slices, as long as the head says.
-fn answer_sized(head: &[u64], l: usize, w: usize, t: usize, space: &mut [u8]) -> bool
-    requires { ⌜ (length (now head) ≡ 284) × (length (now space) ≡ 65536) ⌝ }
-    requires { ⌜ (l ≤ 128) × ((w ≤ 1024) × (t ≤ 8192)) ⌝ }
-{
-    let mut list = list_room();
-    let mut buckets = words_room();
-    let mut tree = tree_room();
-    answer_rest(
-        head,
-        &mut list[..l],
-        &mut buckets[..w],
-        &mut tree[..t],
-        space,
-    )
-}
-
-// A whole head: false where no call has its op, or a length is over its limit.
-fn answer_head(head: &[u64], space: &mut [u8]) -> bool
-    requires { ⌜ (length (now head) ≡ 284) × (length (now space) ≡ 65536) ⌝ }
-{
-    if !play::is_op(head[0]) {
+fn with_tree(
+    asked: &[u64; 9],
+    card: &mut [u64; 272],
+    list: &mut [u64],
+    buckets: &mut [u64],
+    n: usize,
+) -> bool {
+    if n > TREE_MOST {
         return false;
     }
-    let l = head[LENGTHS_AT] as usize;
-    let w = head[LENGTHS_AT + 1] as usize;
-    let t = head[LENGTHS_AT + 2] as usize;
-    if l > LIST_MOST {
+    let mut room = [0u64; TREE_MOST];
+    let tree = &mut room[0..n];
+    if !words::read(tree) {
         return false;
     }
-    if w > WORDS_MOST {
+    if !answer_call(asked, card, list, buckets, tree) {
         return false;
     }
-    if t > TREE_MOST {
+    reply_slices(list, buckets, tree)
+}
+
+fn with_words(
+    asked: &[u64; 9],
+    card: &mut [u64; 272],
+    list: &mut [u64],
+    n: usize,
+    t: usize,
+) -> bool {
+    if n > WORDS_MOST {
         return false;
     }
-    answer_sized(head, l, w, t, space)
+    let mut room = [0u64; WORDS_MOST];
+    let buckets = &mut room[0..n];
+    if !words::read(buckets) {
+        return false;
+    }
+    with_tree(asked, card, list, buckets, t)
+}
+
+fn with_list(asked: &[u64; 9], card: &mut [u64; 272], n: usize, w: usize, t: usize) -> bool {
+    if n > LIST_MOST {
+        return false;
+    }
+    let mut room = [0u64; LIST_MOST];
+    let list = &mut room[0..n];
+    if !words::read(list) {
+        return false;
+    }
+    with_words(asked, card, list, w, t)
 }
 
 // One frame; false where the program is to end: no whole frame is left, or it asks for what no call has.
-pub(crate) fn answer_one(space: &mut [u8]) -> bool
-    requires { ⌜ length (now space) ≡ 65536 ⌝ }
-{
-    let mut head = head_room();
-    if !words::read(&mut head, space) {
+pub(crate) fn answer_one() -> bool {
+    let mut asked = [0u64; 9];
+    if !words::read(&mut asked) {
         return false;
     }
-    answer_head(&head, space)
+    if !play::is_op(asked[0]) {
+        return false;
+    }
+    let mut card = [0u64; 272];
+    if !words::read(&mut card) {
+        return false;
+    }
+    let mut lengths = [0u64; 3];
+    if !words::read(&mut lengths) {
+        return false;
+    }
+    let l = lengths[0] as usize;
+    let w = lengths[1] as usize;
+    let t = lengths[2] as usize;
+    with_list(&asked, &mut card, l, w, t)
 }

@@ -1,8 +1,4 @@
-// One call: the op of a frame's head, on the state that the frame brought.
-ghost use Prim.Native.Nat.{_≤_};
-ghost use mathlib.Core.Path.{_≡_};
-ghost use lib.ListN.{length};
-
+// One call: the op of a frame, on the state that the frame brought.
 const START: u64 = 1;
 
 const INSERT: u64 = 2;
@@ -31,33 +27,32 @@ pub(crate) fn is_op(op: u64) -> bool {
     op <= STORE
 }
 
-// A call on a card. The op is word 0 of the head, its arguments are words 1 to 8.
-fn play_card(
-    head: &[u64],
-    card: &mut [u64; 272],
-    answer: &mut [u64; 6],
-    list: &mut [u64],
-    words: &mut [u64],
-) -> u64
-    requires { ⌜ length (now head) ≡ 284 ⌝ }
-{
-    let op = head[0];
-    let a = head[1];
-    let b = head[2];
-    let c = head[3];
-    let d = head[4];
+// Whether it is a call on a card.
+pub(crate) fn is_on_card(op: u64) -> bool {
+    op <= FINISH
+}
+
+// A call that is lent a list, or nothing. The op is word 0 of what is asked, its arguments are words 1 to 8.
+fn begin(asked: &[u64; 9], card: &mut [u64; 272], answer: &mut [u64; 6], list: &mut [u64]) -> u64 {
+    let op = asked[0];
+    let a = asked[1];
+    let b = asked[2];
+    let c = asked[3];
+    let d = asked[4];
     if op == START {
         return driver::nwidarap_start(card, answer, a, b, c, d);
     }
     if op == INSERT {
-        return driver::nwidarap_insert(card, answer, a, b, c, d, head[5], list);
+        return driver::nwidarap_insert(card, answer, a, b, c, d, asked[5], list);
     }
     if op == EXTRACT {
         return driver::nwidarap_extract(card, answer, list);
     }
-    if op == DELETE {
-        return driver::nwidarap_delete(card, answer, a, b, list);
-    }
+    driver::nwidarap_delete(card, answer, a, b, list)
+}
+
+// A call that is lent the fetched words, or nothing.
+fn close(op: u64, card: &mut [u64; 272], answer: &mut [u64; 6], words: &mut [u64]) -> u64 {
     if op == FIND_MIN {
         return driver::nwidarap_find_min(card, answer);
     }
@@ -67,21 +62,34 @@ fn play_card(
     driver::nwidarap_finish(card, answer, words)
 }
 
+// A call on a card.
+pub(crate) fn on_card(
+    asked: &[u64; 9],
+    card: &mut [u64; 272],
+    answer: &mut [u64; 6],
+    list: &mut [u64],
+    words: &mut [u64],
+) -> u64 {
+    let op = asked[0];
+    if op <= DELETE {
+        return begin(asked, card, answer, list);
+    }
+    close(op, card, answer, words)
+}
+
 // A call on a rack.
-fn play_rack(
-    head: &[u64],
+pub(crate) fn on_rack(
+    asked: &[u64; 9],
     answer: &mut [u64; 6],
     list: &[u64],
     words: &mut [u64],
     tree: &mut [u64],
-) -> u64
-    requires { ⌜ length (now head) ≡ 284 ⌝ }
-{
-    let op = head[0];
-    let h = head[1];
-    let z = head[2];
-    let whole = head[3] as usize;
-    let least = head[4] as usize;
+) -> u64 {
+    let op = asked[0];
+    let h = asked[1];
+    let z = asked[2];
+    let whole = asked[3] as usize;
+    let least = asked[4] as usize;
     if op == FILL {
         return driver::nwidarap_fill(answer, h, z, tree);
     }
@@ -89,20 +97,4 @@ fn play_rack(
         return driver::nwidarap_fetch(answer, h, z, whole, least, list, tree, words);
     }
     driver::nwidarap_store(answer, h, z, whole, least, list, words, tree)
-}
-
-pub(crate) fn play(
-    head: &[u64],
-    card: &mut [u64; 272],
-    answer: &mut [u64; 6],
-    list: &mut [u64],
-    words: &mut [u64],
-    tree: &mut [u64],
-) -> u64
-    requires { ⌜ length (now head) ≡ 284 ⌝ }
-{
-    if head[0] <= FINISH {
-        return play_card(head, card, answer, list, words);
-    }
-    play_rack(head, answer, list, words, tree)
 }

@@ -1,11 +1,12 @@
-// Words as little-endian bytes, in and out. `space` is lent for the bytes of one slice of words, the largest of which is a tree
-// of 8,192.
+// Words as little-endian bytes, in and out. The largest slice of words is a tree of 8,192.
 ghost use Prim.Native.Nat.{_+_, _*_, _≤_};
 ghost use lib.ListN.{length};
 use libc::STDIN_FILENO;
 use libc::STDOUT_FILENO;
 
 const WORD_BYTES: usize = 8;
+
+const WORDS_MOST: usize = 8192;
 
 fn wide(byte: u8) -> u64 {
     byte as u64
@@ -34,8 +35,8 @@ fn store(bytes: &mut [u8], at: usize, word: u64)
     }
 }
 
-// Reads all words of the slice; false where the input ends before.
-pub(crate) fn read(to: &mut [u64], space: &mut [u8]) -> bool
+// Reads all words by way of the bytes; false where the input ends before.
+fn read_by(to: &mut [u64], space: &mut [u8]) -> bool
     requires { ⌜ 8 * length (now to) ≤ length (now space) ⌝ }
 {
     let end = WORD_BYTES * to.len();
@@ -49,8 +50,8 @@ pub(crate) fn read(to: &mut [u64], space: &mut [u8]) -> bool
     true
 }
 
-// Writes all words of the slice; false where the output takes no more.
-pub(crate) fn write(from: &[u64], space: &mut [u8]) -> bool
+// Writes all words by way of the bytes; false where the output takes no more.
+fn write_by(from: &[u64], space: &mut [u8]) -> bool
     requires { ⌜ 8 * length (now from) ≤ length (now space) ⌝ }
 {
     for i in 0..from.len() {
@@ -58,4 +59,22 @@ pub(crate) fn write(from: &[u64], space: &mut [u8]) -> bool
     }
     let end = WORD_BYTES * from.len();
     io::write_all(STDOUT_FILENO, &space[..end])
+}
+
+// Reads all words of the slice; false where the input ends before, and of a slice that is too long.
+pub(crate) fn read(to: &mut [u64]) -> bool {
+    if to.len() > WORDS_MOST {
+        return false;
+    }
+    let mut space = io::large_buffer();
+    read_by(to, &mut space)
+}
+
+// Writes all words of the slice; false where the output takes no more, and of a slice that is too long.
+pub(crate) fn write(from: &[u64]) -> bool {
+    if from.len() > WORDS_MOST {
+        return false;
+    }
+    let mut space = io::large_buffer();
+    write_by(from, &mut space)
 }

@@ -45,10 +45,3 @@ answer-back BadBucket = refl
 
 pub answer-known : (a b : Answer) → answerNumber a ≡ answerNumber b → a ≡ b
 answer-known a b e = sym (answer-back a) ∙ ap answerOf e ∙ answer-back b
-
--- a promise leaves one answer, and one content of the lent slice
-pub one-answer :
-    (refusal : ℕ) (due before : List ℕ) (a b : Answer) (after later : List ℕ) → Answers refusal due before a after
-    → Answers refusal due before b later → (a ≡ b) × (after ≡ later)
-one-answer refusal due before a b after later p q =
-    (answer-known a b (p .number ∙ sym (q .number)), p .lent ∙ sym (q .lent))

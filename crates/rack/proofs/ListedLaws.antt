@@ -6,6 +6,7 @@ use mathlib.Core.List.{List, [], _∷_, _++_, map, map-append, append-assoc}
 use mathlib.Core.List.{List·Memᴰ, List·Memᴰ·head, List·Memᴰ·tail, List·Memᴰ·not-nil, List·Memᴰ·append-cases}
 use mathlib.Core.Logic.{⊎-elim}
 use mathlib.Core.Path.{_≡_, refl, sym, ap, _∙_}
+use mathlib.Mathlib.Data.Bool.Basic.{or-eq-false-eq-eq-false-and-eq-false as neither}
 use native.Mathlib.Omega.{arith}
 use lib.ListN.{length, take, drop, length-append, length-map}
 use lib.Seq.{take-at, drop-at}
@@ -14,14 +15,14 @@ use Rattle.record.specs.declared.Leaf.{Leaf}
 use Rattle.path.specs.Path.{bucket, number, pathBucket, siblingOf, upFrom, path}
 use Rattle.path.specs.Sizes.{leavesOf, treeIn}
 use Rattle.path.specs.Layout.{treeWords}
-use Rattle.path.specs.BucketList.{BucketList, pairList, pathList, numbers, laid, counts}
+use Rattle.lists.specs.BucketList.{BucketList, pairList, pathList, numbers, laid, counts}
 use Rattle.path.proofs.PathLaws.{path-in-tree, sibling-in-tree, levels-apart, pair-apart}
-use Rattle.path.proofs.Naming.{path-named, siblings-named}
+use Rattle.lists.proofs.Naming.{path-named, siblings-named}
 use Rattle.refusal.specs.Refusal.{firstGiven}
 use Rattle.rack.specs.Answers.{wordsFor, outside, anyOutside, copyTable}
-use Rattle.rack.specs.Copy.{listed}
-use Rattle.rack.proofs.RefusalLaws.{not-outside, neither, passes-copy}
-use Rattle.rack.proofs.StoreLaws.{Distinct, none, more}
+use Rattle.copies.specs.Copy.{listed}
+use Rattle.rack.proofs.RefusalLaws.{not-outside, passes-copy}
+use Rattle.copies.proofs.StoreLaws.{Distinct, none, more}
 
 -- ---- the list laid in lent places
 numbered : (bs : List Bucket) → map bucket (map number bs) ≡ bs
@@ -71,7 +72,7 @@ inside-append :
 unfolding anyOutside
 inside-append h [] ys e f = f
 inside-append h (x ∷ xs) ys e f =
-    let n = neither (outside h x) _ e in
+    let n = neither (outside h x) _ .0 e in
     rw (n .0) (inside-append h xs ys (n .1) f)
 
 -- some levels of a path, or their siblings

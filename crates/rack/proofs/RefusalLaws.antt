@@ -1,6 +1,6 @@
 -- The refusals: what each test of the tables tells, and what stands fast where none applies. Assumes nothing.
 use Prim.Native.Nat.{ℕ, _+_, _*_, _-_, _/_, _≤_, _<_}
-use mathlib.Core.Bool.{Bool, true, false, _||_, true≢false}
+use mathlib.Core.Bool.{true, false, _||_}
 use mathlib.Core.List.{List}
 use mathlib.Core.Path.{_≡_, refl, sym}
 use native.Mathlib.Omega.{arith}
@@ -9,7 +9,7 @@ use native.Mathlib.Numerals.{add-one}
 use lib.Dec.{ltb}
 use lib.ListN.{length, take, drop, getD, drop-of-length-le}
 use lib.Pow.{pow-pos}
-use lib.Seq.{drop-cons}
+use lib.Seq.{drop-cons, getD-take, length-take-le}
 use borrow.Author.Tests.{ltb-true, ltb-false, lt-ltb, le-ltb, le-leb, lt-leb, eqb-true, eq-eqb, not-false}
 use Rattle.path.specs.Sizes.{between, leavesOf, treeIn}
 use Rattle.path.specs.Layout.{bucketWords, treeWords}
@@ -65,21 +65,21 @@ module _ (h n : ℕ) where
       let some = pow-pos h in
       (b .0, omega arith)
 
--- a list of them
-pub neither : (s t : Bool) → (s || t) ≡ false → (s ≡ false) × (t ≡ false)
-neither true t e = absurd (true≢false e)
-neither false t e = (refl, e)
-
 -- the numbers from place i on, the first apart
 pub outside-next :
-    (h : ℕ) (list : List ℕ) (i : ℕ) → i < length list
-    → anyOutside h (drop i list) ≡ outside h (getD list i 0) || anyOutside h (drop (i + 1) list)
+    (h : ℕ) (list : List ℕ) (many i : ℕ) → many ≤ length list → i < many
+    → anyOutside h (drop i (take many list)) ≡ outside h (getD list i 0) || anyOutside h (drop (i + 1) (take many list))
 unfolding anyOutside
-outside-next h list i l = rw (drop-cons list i 0 l, add-one)
+outside-next h list many i l m =
+    let e = length-take-le many list l in
+    rw (drop-cons (take many list) i 0 (omega arith), getD-take many list i 0 m, add-one)
 
-pub none-outside : (h : ℕ) (list : List ℕ) (i : ℕ) → length list ≤ i → anyOutside h (drop i list) ≡ false
+pub none-outside :
+    (h : ℕ) (list : List ℕ) (many i : ℕ) → many ≤ length list → many ≤ i → anyOutside h (drop i (take many list)) ≡ false
 unfolding anyOutside
-none-outside h list i l = rw (drop-of-length-le list {i = i} l)
+none-outside h list many i l m =
+    let e = length-take-le many list l in
+    rw (drop-of-length-le (take many list) {i = i} (omega arith))
 
 -- ---- no refusal
 pub record TreePasses (h z tree : ℕ) : Type 0 where

@@ -6,7 +6,7 @@ use lib.Dec.{ltb, eqb}
 use lib.ListN.{length, take}
 use Rattle.path.specs.Sizes.{between, leavesOf, treeIn}
 use Rattle.path.specs.Layout.{treeWords}
-use Rattle.path.specs.BucketList.{fetchedFor}
+use Rattle.lists.specs.BucketList.{fetchedFor}
 use Rattle.rack.specs.declared.Answer.{Answer}
 use Rattle.rack.specs.declared.Answer.the-variants.{Done, BadSize, ShortRoom, BadBucket}
 use Rattle.refusal.specs.Refusal.{Refusal, row, firstGiven}

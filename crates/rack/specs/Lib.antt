@@ -1,6 +1,4 @@
 -- What a reader must believe of the rack.
 pub mod Refusals
 pub mod Answers
-pub mod Copy
 pub mod Promises
-pub mod BucketAt

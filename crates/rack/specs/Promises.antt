@@ -6,7 +6,7 @@ use Rattle.path.specs.Layout.{freshTree}
 use Rattle.rack.specs.declared.Answer.{Answer}
 use Rattle.rack.specs.Refusals.{afterwards}
 use Rattle.rack.specs.Answers.{answerNumber, fillRefusal, copyRefusal}
-use Rattle.rack.specs.Copy.{listed, fetched, stored}
+use Rattle.copies.specs.Copy.{listed, fetched, stored}
 
 -- The answer has the refusal's number, and the slice that was lent to be written holds what is due, or what it held before.
 pub record Answers (refusal : ℕ) (due before : List ℕ) (answer : Answer) (after : List ℕ) : Type 0 where

@@ -2,16 +2,12 @@
 // refusals 1, 11 and 14 of "Refusal numbers".
 //
 // Every call tests all that it was given before it writes the first word. A bucket comes in as a plain number, as the
-// paper's rack is given one: until it has been tested it may be no bucket at all. Stands on `record` and `path`.
+// paper's rack is given one: until it has been tested it may be no bucket at all. Stands on `record`, `path` and `copies`.
 ghost use mathlib.Core.Path.{_≡_};
 ghost use Rattle.rack.specs.Answers.{answerNumber, isDone};
 ghost use Rattle.rack.specs.Promises.{Fills, Fetches, Stores};
 
-mod copy;
-mod layout;
 mod refusing;
-
-use record::RECORD_WORDS;
 
 // What a call answers; a refusal by its name in the paper's table.
 pub enum Answer {
@@ -49,7 +45,7 @@ pub fn fill(tree: &mut [u64], h: u64, z: u64) -> Answer
     if !answer.is_done() {
         return answer;
     }
-    copy::fill_dummies(tree);
+    copies::fill_dummies(tree);
     answer
 }
 
@@ -69,18 +65,7 @@ pub fn fetch(
     if !answer.is_done() {
         return answer;
     }
-    let bucket = layout::bucket_words(z);
-    let split = whole * bucket;
-    let end = split + least * RECORD_WORDS;
-    let covered = whole + least;
-    copy::fetch_parts(z, tree, &list[..whole], bucket, &mut words[..split]);
-    copy::fetch_parts(
-        z,
-        tree,
-        &list[whole..covered],
-        RECORD_WORDS,
-        &mut words[split..end],
-    );
+    copies::fetch_listed(z, tree, list, whole, least, words);
     answer
 }
 
@@ -100,6 +85,6 @@ pub fn store(
     if !answer.is_done() {
         return answer;
     }
-    copy::store_buckets(z, tree, &list[..whole], words);
+    copies::store_listed(z, tree, list, whole, words);
     answer
 }

@@ -1,11 +1,11 @@
 // The rack's refusals: document 01, "On the rack: 1, 11, 14". One function decides for each call, in that order.
 ghost use mathlib.Core.Path.{_≡_};
-ghost use Prim.Native.Nat.{_≤_, _<_};
+ghost use Prim.Native.Nat.{_≤_};
+ghost use lib.ListN.{length, take};
 ghost use Rattle.refusal.specs.Refusal.{firstGiven};
 ghost use Rattle.rack.specs.Answers.{answerNumber, fillTable, copyTable, fewWords, anyOutside};
 use crate::Answer;
-use crate::layout;
-use crate::layout::FIRST_BUCKET;
+use copies::FIRST_BUCKET;
 use path::leaves;
 use path::tree_in_range;
 use record::RECORD_WORDS;
@@ -15,21 +15,21 @@ fn few_words(z: u64, whole: usize, least: usize, words: usize) -> bool
     requires { ⌜ z ≤ 5 ⌝ }
     ensures { λ r. ⌜ r ≡ fewWords z whole least words ⌝ }
 {
-    let bucket = layout::bucket_words(z);
+    let bucket = copies::bucket_words(z);
     if words / bucket < whole {
         return true;
     }
     (words - whole * bucket) / RECORD_WORDS < least
 }
 
-// Whether some number of the list names no bucket of the tree.
-fn any_outside(h: u64, list: &[u64]) -> bool
-    requires { ⌜ h ≤ 16 ⌝ }
-    ensures { λ r. ⌜ r ≡ anyOutside h (now (list .entry)) ⌝ }
+// Whether some of the first so many numbers of the list names no bucket of the tree.
+fn any_outside(h: u64, list: &[u64], covered: usize) -> bool
+    requires { ⌜ (h ≤ 16) × (covered ≤ length (now list)) ⌝ }
+    ensures { λ r. ⌜ r ≡ anyOutside h (take covered (now (list .entry))) ⌝ }
 {
     let end = 2 * leaves(h);
     let mut i = 0;
-    while i < list.len() {
+    while i < covered {
         if list[i] < FIRST_BUCKET {
             return true;
         }
@@ -47,7 +47,7 @@ pub(crate) fn of_fill(h: u64, z: u64, tree: usize) -> Answer
     if !tree_in_range(h, z) {
         return Answer::BadSize;
     }
-    if tree != layout::tree_words(h, z) {
+    if tree != copies::tree_words(h, z) {
         return Answer::ShortRoom;
     }
     Answer::Done
@@ -68,7 +68,7 @@ pub(crate) fn of_copy(
     if !tree_in_range(h, z) {
         return Answer::BadSize;
     }
-    if tree != layout::tree_words(h, z) {
+    if tree != copies::tree_words(h, z) {
         return Answer::ShortRoom;
     }
     if whole > list.len() {
@@ -81,7 +81,7 @@ pub(crate) fn of_copy(
         return Answer::ShortRoom;
     }
     let covered = whole + least;
-    if any_outside(h, &list[..covered]) {
+    if any_outside(h, list, covered) {
         return Answer::BadBucket;
     }
     Answer::Done

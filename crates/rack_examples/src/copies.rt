@@ -1,5 +1,5 @@
 // What fill, fetch and store leave. With height 2 and one slot there are the buckets 2 to 7, of 8 words each.
-ghost use Prim.Native.Nat.{_+_, _≤_};
+ghost use Prim.Native.Nat.{_+_, _*_, _≤_};
 ghost use lib.ListN.{length};
 use crate::line;
 
@@ -10,8 +10,18 @@ pub(crate) fn fresh() {
     let mut tree = [7u64; 16];
     let done = rack::fill(&mut tree, 1, 1);
     line::answer(b"fill of height 1 with 1 slot:", done.number());
-    line::words(b"bucket 2:", &tree[..8]);
-    line::words(b"bucket 3:", &tree[8..]);
+    line::parts(b"bucket", &[2u64, 3], 8, &tree);
+}
+
+// The words fetched for a list whose first `whole` numbers are whole, and those past it.
+fn fetch_lines(list: &[u64], whole: usize, words: &[u64])
+    requires { ⌜ (whole ≤ length (now list)) × (4 * (whole + length (now list)) ≤ length (now words)) ⌝ }
+{
+    let split = 8 * whole;
+    let end = split + 4 * (list.len() - whole);
+    line::parts(b"bucket", &list[0..whole], 8, words);
+    line::parts(b"least of", &list[whole..], 4, &words[split..]);
+    line::words(b"past the list:", &words[end..]);
 }
 
 pub(crate) fn fetched() {
@@ -21,13 +31,7 @@ pub(crate) fn fetched() {
     let mut words = [9u64; 44];
     let done = rack::fetch(2, 1, &tree, &list, 4, 2, &mut words);
     line::answer(b"fetch of the list of P12 in a fresh tree:", done.number());
-    line::words(b"bucket 2:", &words[..8]);
-    line::words(b"bucket 5:", &words[8..16]);
-    line::words(b"bucket 3:", &words[16..24]);
-    line::words(b"bucket 6:", &words[24..32]);
-    line::words(b"least of 4:", &words[32..36]);
-    line::words(b"least of 7:", &words[36..40]);
-    line::words(b"past the list:", &words[40..]);
+    fetch_lines(&list, 4, &words);
 }
 
 // Numbers that follow each other, so that each word shows where it came from.
@@ -43,20 +47,28 @@ fn number_from(words: &mut [u64], first: u64)
     }
 }
 
+fn store_from(text: &[u8], tree: &mut [u64], list: &[u64], whole: usize, least: usize, first: u64)
+    requires { ⌜ first ≤ 900 ⌝ }
+{
+    let mut words = [9u64; 44];
+    number_from(&mut words, first);
+    let done = rack::store(2, 1, tree, list, whole, least, &words);
+    line::answer(text, done.number());
+}
+
 pub(crate) fn stored() {
     let mut tree = [7u64; 48];
     rack::fill(&mut tree, 2, 1);
     let list = P12;
-    let mut words = [9u64; 44];
-    number_from(&mut words, 100);
-    let done = rack::store(2, 1, &mut tree, &list, 4, 2, &words);
-    line::answer(b"store of changed words by the list of P12:", done.number());
-    line::words(b"bucket 2:", &tree[..8]);
-    line::words(b"bucket 3:", &tree[8..16]);
-    line::words(b"bucket 4:", &tree[16..24]);
-    line::words(b"bucket 5:", &tree[24..32]);
-    line::words(b"bucket 6:", &tree[32..40]);
-    line::words(b"bucket 7:", &tree[40..]);
+    store_from(
+        b"store of changed words by the list of P12:",
+        &mut tree,
+        &list,
+        4,
+        2,
+        100,
+    );
+    line::parts(b"bucket", &[2u64, 3, 4, 5, 6, 7], 8, &tree);
     fetched_again(&tree);
     stored_twice(&mut tree);
 }
@@ -69,26 +81,20 @@ fn fetched_again(tree: &[u64]) {
         b"fetch of 6 and 2 whole, of 5 the least record:",
         done.number(),
     );
-    line::words(b"bucket 6:", &words[..8]);
-    line::words(b"bucket 2:", &words[8..16]);
-    line::words(b"least of 5:", &words[16..20]);
-    line::words(b"past the list:", &words[20..]);
+    fetch_lines(&list, 2, &words);
 }
 
 // "of one number named twice the later store stands"
 fn stored_twice(tree: &mut [u64]) {
+    store_from(b"store of bucket 2 twice:", tree, &[2u64, 2], 2, 0, 200);
+    line::parts(b"bucket", &[2u64, 3], 8, tree);
+    fetched_twice(tree);
+}
+
+fn fetched_twice(tree: &[u64]) {
     let list = [2u64, 2];
     let mut words = [9u64; 16];
-    number_from(&mut words, 200);
-    let done = rack::store(2, 1, tree, &list, 2, 0, &words);
-    line::answer(b"store of bucket 2 twice:", done.number());
-    if tree.len() < 16 {
-        return;
-    }
-    line::words(b"bucket 2:", &tree[..8]);
-    line::words(b"bucket 3:", &tree[8..16]);
-    let again = rack::fetch(2, 1, tree, &list, 2, 0, &mut words);
-    line::answer(b"fetch of bucket 2 twice:", again.number());
-    line::words(b"bucket 2:", &words[..8]);
-    line::words(b"bucket 2:", &words[8..]);
+    let done = rack::fetch(2, 1, tree, &list, 2, 0, &mut words);
+    line::answer(b"fetch of bucket 2 twice:", done.number());
+    line::parts(b"bucket", &list, 8, &words);
 }

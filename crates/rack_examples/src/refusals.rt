@@ -3,7 +3,9 @@
 use crate::copies::P12;
 use crate::line;
 
-const TOP: usize = 18446744073709551615;
+const TOP: u64 = 18446744073709551615;
+
+const HALF: u64 = 9223372036854775808;
 
 // How many of the words are not `n`.
 fn others(words: &[u64], n: u64) -> u64 {
@@ -19,7 +21,6 @@ fn others(words: &[u64], n: u64) -> u64 {
 }
 
 fn copy_in(
-    text: &[u8],
     h: u64,
     z: u64,
     tree: &mut [u64],
@@ -30,7 +31,6 @@ fn copy_in(
 ) {
     let first = rack::fetch(h, z, tree, list, whole, least, words);
     let second = rack::store(h, z, tree, list, whole, least, words);
-    line::name(text);
     line::number(first.number());
     line::number(second.number());
     line::number(others(words, 9));
@@ -40,7 +40,6 @@ fn copy_in(
 
 // A fetch and a store with a tree and words of these lengths.
 fn copy_line(
-    text: &[u8],
     h: u64,
     z: u64,
     tree_words: usize,
@@ -58,7 +57,6 @@ fn copy_line(
         return;
     }
     copy_in(
-        text,
         h,
         z,
         &mut tree[..tree_words],
@@ -69,73 +67,207 @@ fn copy_line(
     );
 }
 
+// A line for each name: h, Z, the tree's words, both counts and the words.
+fn table(names: &[u8], cases: &[u64], list: &[u64]) {
+    let mut at = 0;
+    let mut i = 0;
+    while i + 5 < cases.len() {
+        at = line::next_name(names, at);
+        copy_line(
+            cases[i],
+            cases[i + 1],
+            cases[i + 2] as usize,
+            list,
+            cases[i + 3] as usize,
+            cases[i + 4] as usize,
+            cases[i + 5] as usize,
+        );
+        i += 6;
+    }
+}
+
 pub(crate) fn copies() {
     line::name(b"fetch, store, words changed, tree words changed");
     line::end();
     let list = P12;
-    copy_line(b"the list of P12:", 2, 1, 48, &list, 4, 2, 40);
-    copy_line(b"nothing asked for:", 2, 1, 48, &list, 0, 0, 0);
+    taken(&list);
     sizes(&list);
     rooms(&list);
     buckets();
-    pairs();
+    let late = [2u64, 5, 3, 6, 4, 8];
+    siblings(&late);
+    pairs(&late);
+}
+
+fn taken(list: &[u64]) {
+    table(
+        b"the list of P12:\nnothing asked for:\n",
+        &[2u64, 1, 48, 4, 2, 40, 2, 1, 48, 0, 0, 0],
+        list,
+    );
 }
 
 fn sizes(list: &[u64]) {
-    copy_line(b"height 0:", 0, 1, 48, list, 4, 2, 40);
-    copy_line(b"height 17:", 17, 1, 48, list, 4, 2, 40);
-    copy_line(b"height 2^64 - 1:", TOP as u64, 1, 48, list, 4, 2, 40);
-    copy_line(b"no slots:", 2, 0, 48, list, 4, 2, 40);
-    copy_line(b"6 slots:", 2, 6, 48, list, 4, 2, 40);
+    table(
+        b"height 0:\nheight 17:\nheight 2^64 - 1:\nno slots:\n6 slots:\n",
+        &[
+            0u64,
+            1,
+            48,
+            4,
+            2,
+            40,
+            17,
+            1,
+            48,
+            4,
+            2,
+            40,
+            TOP,
+            1,
+            48,
+            4,
+            2,
+            40,
+            2,
+            0,
+            48,
+            4,
+            2,
+            40,
+            2,
+            6,
+            48,
+            4,
+            2,
+            40,
+        ],
+        list,
+    );
 }
 
 fn rooms(list: &[u64]) {
-    copy_line(b"a tree one word short:", 2, 1, 47, list, 4, 2, 40);
-    copy_line(b"a tree one word long:", 2, 1, 49, list, 4, 2, 40);
-    copy_line(b"one count too many:", 2, 1, 48, list, 4, 3, 44);
-    copy_line(b"whole 2^64 - 1 and least 2:", 2, 1, 48, list, TOP, 2, 40);
-    copy_line(b"whole 1 and least 2^64 - 1:", 2, 1, 48, list, 1, TOP, 40);
-    copy_line(
-        b"both counts 2^63:",
-        2,
-        1,
-        48,
+    table(
+        b"a tree one word short:\na tree one word long:\none count too many:\nwhole 2^64 - 1 and least 2:\n",
+        &[
+            2u64,
+            1,
+            47,
+            4,
+            2,
+            40,
+            2,
+            1,
+            49,
+            4,
+            2,
+            40,
+            2,
+            1,
+            48,
+            4,
+            3,
+            44,
+            2,
+            1,
+            48,
+            TOP,
+            2,
+            40,
+        ],
         list,
-        TOP / 2 + 1,
-        TOP / 2 + 1,
-        40,
     );
-    copy_line(b"words one short:", 2, 1, 48, list, 4, 2, 39);
-    copy_line(b"words for the whole only:", 2, 1, 48, list, 4, 2, 32);
+    table(
+        b"whole 1 and least 2^64 - 1:\nboth counts 2^63:\nwords one short:\nwords for the whole only:\n",
+        &[
+            2u64,
+            1,
+            48,
+            1,
+            TOP,
+            40,
+            2,
+            1,
+            48,
+            HALF,
+            HALF,
+            40,
+            2,
+            1,
+            48,
+            4,
+            2,
+            39,
+            2,
+            1,
+            48,
+            4,
+            2,
+            32,
+        ],
+        list,
+    );
+}
+
+// Two numbers, both whole.
+fn bucket_line(text: &[u8], list: &[u64]) {
+    line::name(text);
+    copy_line(2, 1, 48, list, 2, 0, 16);
 }
 
 fn buckets() {
-    copy_line(b"bucket 0:", 2, 1, 48, &[2u64, 0], 2, 0, 16);
-    copy_line(b"bucket 1:", 2, 1, 48, &[1u64, 2], 2, 0, 16);
-    copy_line(b"bucket 8:", 2, 1, 48, &[2u64, 8], 2, 0, 16);
-    copy_line(b"bucket 2^64 - 1:", 2, 1, 48, &[TOP as u64, 2], 2, 0, 16);
-    let list = [2u64, 5, 3, 6, 4, 8];
-    copy_line(b"a sibling 8:", 2, 1, 48, &list, 4, 2, 40);
-    copy_line(b"8 past the counts:", 2, 1, 48, &list, 4, 1, 40);
+    bucket_line(b"bucket 0:", &[2u64, 0]);
+    bucket_line(b"bucket 1:", &[1u64, 2]);
+    bucket_line(b"bucket 8:", &[2u64, 8]);
+    bucket_line(b"bucket 2^64 - 1:", &[TOP, 2]);
+}
+
+fn siblings(list: &[u64]) {
+    table(
+        b"a sibling 8:\n8 past the counts:\n",
+        &[2u64, 1, 48, 4, 2, 40, 2, 1, 48, 4, 1, 40],
+        list,
+    );
 }
 
 // Two that apply at once: the earlier in the paper's order is given.
-fn pairs() {
-    let list = [2u64, 5, 3, 6, 4, 8];
-    copy_line(b"1 before 11:", 0, 1, 47, &list, 4, 1, 40);
-    copy_line(b"1 before 14:", 2, 6, 48, &list, 4, 2, 40);
-    copy_line(
-        b"a tree of another length before 14:",
-        2,
-        1,
-        47,
-        &list,
-        4,
-        2,
-        40,
+fn pairs(list: &[u64]) {
+    table(
+        b"1 before 11:\n1 before 14:\na tree of another length before 14:\ncounts before 14:\nwords before 14:\n",
+        &[
+            0u64,
+            1,
+            47,
+            4,
+            1,
+            40,
+            2,
+            6,
+            48,
+            4,
+            2,
+            40,
+            2,
+            1,
+            47,
+            4,
+            2,
+            40,
+            2,
+            1,
+            48,
+            4,
+            3,
+            44,
+            2,
+            1,
+            48,
+            4,
+            2,
+            39,
+        ],
+        list,
     );
-    copy_line(b"counts before 14:", 2, 1, 48, &list, 4, 3, 44);
-    copy_line(b"words before 14:", 2, 1, 48, &list, 4, 2, 39);
 }
 
 fn fill_in(text: &[u8], h: u64, tree: &mut [u64]) {

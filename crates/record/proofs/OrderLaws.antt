@@ -1,13 +1,13 @@
 -- The order of records through its laws, and what follows for the smaller of two and the smallest of some.
--- Users know `noLater` by `ordered` and `noLater-blind-to-values`; no law below those two unfolds it. Assumes nothing.
+-- Users know `noLater` by `ordered`, `order-by-key` and `noLater-blind-to-values`; no law below these unfolds it. Assumes nothing.
 use Prim.Native.Nat.{ℕ, zero, suc, _<_, _≤_}
 use mathlib.Core.Bool.{Bool, true, false, cond, and-eq-true-iff, true≢false}
 use mathlib.Core.List.{List, [], _∷_, List·Memᴰ, List·Memᴰ·head, List·Memᴰ·tail}
-use mathlib.Core.Logic.{_⊎_, inl, inr}
+use mathlib.Core.Logic.{_⊎_, inl, inr, ⊎-elim}
 use mathlib.Core.Path.{_≡_, refl}
 use mathlib.Mathlib.Data.Bool.Basic.{dichotomy}
 use native.Mathlib.Omega.{arith}
-use lib.Dec.{ltb}
+use lib.Dec.{ltb, leb}
 use lib.ListN.{replicate}
 use borrow.Author.Tests.{ltb-true, ltb-false, le-ltb, leb-true, leb-false, le-leb, eqb-true, eq-eqb, ne-eqb}
 use Rattle.record.specs.declared.Leaf.{Leaf}
@@ -70,6 +70,16 @@ module _ (a b : Record) where
   noLater-key : b .key < a .key → noLater a b ≡ false
   unfolding noLater
   noLater-key h = rw (le-ltb (a .key) (b .key) (omega arith), ne-eqb (a .key) (b .key) (omega arith))
+
+  -- of an earlier record, or one with a smaller key, the order is that of the keys
+  pub order-by-key : (a .key < b .key) ⊎ (a .stamp .0 < b .stamp .0) → noLater a b ≡ leb (a .key) (b .key)
+  order-by-key h = elim (dichotomy (leb (a .key) (b .key))) [
+    | inl f ↦ rw f (noLater-key (leb-false _ _ f))
+    | inr t ↦ rw t (true-noLater (record {
+      keys = leb-true _ _ t;
+      stamps = λ k. ⊎-elim (λ (l : a .key < b .key). omega arith) (λ (l : a .stamp .0 < b .stamp .0). omega arith) h;
+    }))
+  ]
 
 -- `noLater` is an order
 pub ordered : Ordered noLater

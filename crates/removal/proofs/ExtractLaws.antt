@@ -13,8 +13,9 @@ use Rattle.record.specs.Standing.{same, isProper}
 use Rattle.path.specs.declared.sizes.Sizes.{Sizes}
 use Rattle.path.specs.Sizes.{leavesOf}
 use Rattle.way.specs.Evict.{seek}
-use Rattle.gather.specs.Removal.{named, found, removed}
-use Rattle.damage.specs.Damaged.{pathFetched, pathDamaged}
+use Rattle.clearing.specs.Removal.{named, found, removed}
+use Rattle.sound.specs.Fetched.{pathFetched}
+use Rattle.damage.specs.Damaged.{pathDamaged}
 use Rattle.damage.proofs.Found.{shown-extract-by-name}
 use Rattle.judge.specs.BadParts.{stampOf}
 use Rattle.settle.specs.declared.Settled.{Settled}

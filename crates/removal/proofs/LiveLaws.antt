@@ -1,11 +1,11 @@
 -- A removal that finds its record finds a live event: where none is live, a path that is not Damaged has dummies alone. So
 -- the count of live events never falls below 0. Assumes nothing.
 use Prim.Native.Nat.{ℕ, _+_, _*_, _≤_}
-use mathlib.Core.Bool.{Bool, true, false, true≢false}
+use mathlib.Core.Bool.{true, false, true≢false}
 use mathlib.Core.List.{List}
 use mathlib.Core.Logic.{inl, inr}
-use mathlib.Core.Path.{_≡_, refl, sym, _∙_}
-use mathlib.Mathlib.Data.Bool.Basic.{dichotomy}
+use mathlib.Core.Path.{_≡_, sym, _∙_}
+use mathlib.Mathlib.Data.Bool.Basic.{dichotomy, or-eq-false-eq-eq-false-and-eq-false as neither}
 use native.Mathlib.Decide.{decLe}
 use native.Mathlib.Omega.{arith}
 use lib.ListN.{length}
@@ -15,11 +15,12 @@ use Rattle.record.specs.declared.Record.{Record}
 use Rattle.record.specs.Standing.{dummy, isDummy}
 use Rattle.record.proofs.StandingLaws.{dummy-is, is-dummy}
 use Rattle.path.specs.declared.sizes.Sizes.{Sizes}
-use Rattle.gather.specs.Removal.{named, found}
-use Rattle.damage.specs.Damaged.{pathFetched, pathDamaged}
+use Rattle.clearing.specs.Removal.{named, found}
+use Rattle.sound.specs.Fetched.{pathFetched}
+use Rattle.damage.specs.Damaged.{pathDamaged}
 use Rattle.damage.proofs.Empty.{none-found}
 use Rattle.judge.specs.BadParts.{stampOf, oddLeast}
-use Rattle.judge.proofs.FitLaws.{Fit, neither}
+use Rattle.judge.proofs.FitLaws.{Fit}
 use Rattle.settle.specs.Left.{pathWay, removal, removalDamaged}
 use Rattle.settle.specs.Room.{RemovalRoom}
 
@@ -41,7 +42,7 @@ module _ (s : Sizes) (t c : ℕ) (root : List Record) (least : Record) (ws : Lis
     (good : removalDamaged s t c root least ws label (named label stamp) ≡ false) where
   fetched-good : pathDamaged (s .h) (s .r) (stampOf t) least (pathFetched (s .h) (s .z) label ws) (pathWay s c root ws) ≡ false
   unfolding removalDamaged
-  fetched-good = neither _ _ good .0
+  fetched-good = neither _ _ .0 good .0
 
   none-there : c ≡ 0 → found (named label stamp) (pathWay s c root ws) ≡ false
   none-there e =

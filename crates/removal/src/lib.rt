@@ -1,15 +1,19 @@
 // The finish of ExtractMin and Delete on the card's parts: document 01, "replaces the root's least record, wherever it is on
 // the path, by the dummy; Delete does so with the record that has this label and stamp, or answers Absent and removes
 // nothing. Then the path is evicted." The card looks at itself and at the room first (13, 3, 11).
-// Stands on `settle`, `work`, `damage`, `mend` and what is below.
+// All is prepared before the first word is written.
+// Stands on `look`, `settle`, `work`, `writing` and what is below.
 ghost use mathlib.Core.Path.{_≡_};
 ghost use mathlib.Core.Bool.{cond};
-ghost use Prim.Native.Nat.{_-_};
-ghost use Rattle.gather.specs.Removal.{named};
-ghost use Rattle.path.specs.BucketList.{wordsMoved, pathList};
+ghost use Prim.Native.Nat.{_*_, _-_, _≤_};
+ghost use lib.ListN.{length};
+ghost use Rattle.path.specs.Layout.{bucketWords};
+ghost use Rattle.clearing.specs.Removal.{named};
+ghost use Rattle.writing.specs.Stored.{StoreRoom};
+ghost use Rattle.lists.specs.BucketList.{wordsMoved, pathList};
 ghost use Rattle.settle.specs.Left.{removal, removalDamaged};
-ghost use Rattle.settle.specs.Settled.{Prepares, Settles};
-ghost use Rattle.settle.specs.Room.{RemovalRoom, RemovalScratch};
+ghost use Rattle.settle.specs.Settled.{Prepares, Settles, Writes};
+ghost use Rattle.settle.specs.Room.{Cut, RemovalRoom};
 use path::Sizes;
 use record::Leaf;
 use record::RECORD_WORDS;
@@ -19,7 +23,7 @@ use settle::PATH_MOST;
 use settle::SIBLINGS_MOST;
 use settle::Settled;
 use settle::WAY_MOST;
-use settle::comes_out_bad;
+use settle::judged;
 use settle::path_words;
 use settle::unsettled;
 use settle::way_words;
@@ -40,8 +44,6 @@ fn live_after(c: u64, found: bool) -> u64
 // All is worked out: the path's buckets in `path`, nothing yet in the words. The words moved so far are the siblings'.
 fn prepare_removal(
     words: &[u64],
-    w: &mut [u64],
-    sibs: &mut [u64],
     path: &mut [u64],
     root: [Record; 64],
     sizes: Sizes,
@@ -51,53 +53,43 @@ fn prepare_removal(
     label: Leaf,
     stamp: Stamp,
 ) -> Settled
-    requires { ⌜ (RemovalRoom sizes t c label (now words)) × (RemovalScratch sizes (now w) (now sibs) (now path)) ⌝ }
+    requires { ⌜ (RemovalRoom sizes t c label (now words)) × (length (now path) ≡ sizes .h * bucketWords (sizes .z)) ⌝ }
     ensures { λ out. ⌜ Prepares root least c (removalDamaged sizes t c root least (now (words .entry)) label (named label stamp)) (removal sizes c root (now (words .entry)) label (named label stamp)) (sizes .h) (now (path .exit)) out ⌝ }
 {
-    let moved = work::show_path(w, sibs, root, words, sizes);
-    let buckets = path.len();
-    if damage::path_damaged(&words[0..buckets], sibs, w, sizes, label, Stamp(t), least) {
+    let h = sizes.h as usize;
+    let slots = way_words(sizes, h);
+    let siblings = RECORD_WORDS * h;
+    let mut way = [0u64; WAY_MOST];
+    let mut beside = [0u64; SIBLINGS_MOST];
+    let w = &mut way[0..slots];
+    let sibs = &mut beside[0..siblings];
+    let seen = look::look_path(words, w, sibs, root, sizes, t, least, label);
+    if seen.damaged {
         return unsettled(root, least, c);
     }
     let out = work::remove_path(w, sibs, path, root, sizes, label, stamp);
     let next_root = out.root;
     let next_least = out.least;
-    let live = live_after(c, out.found);
-    if comes_out_bad(next_root, sizes, t + 1, live, next_least) {
-        return unsettled(root, least, c);
-    }
-    Settled {
+    let next = Settled {
         root: next_root,
         least: next_least,
-        c: live,
+        c: live_after(c, out.found),
         found: out.found,
-        moved: moved,
+        moved: seen.moved,
         damaged: false,
-    }
+    };
+    judged(root, least, c, sizes, t + 1, next)
 }
 
-// The buckets are written once all is known.
-fn write_removal(
-    words: &mut [u64],
-    w: &mut [u64],
-    sibs: &mut [u64],
-    path: &mut [u64],
-    root: [Record; 64],
-    sizes: Sizes,
-    t: u64,
-    c: u64,
-    least: Record,
-    label: Leaf,
-    stamp: Stamp,
-) -> Settled
-    requires { ⌜ (RemovalRoom sizes t c label (now words)) × (RemovalScratch sizes (now w) (now sibs) (now path)) ⌝ }
-    ensures { λ out. ⌜ Settles root least c (removalDamaged sizes t c root least (now (words .entry)) label (named label stamp)) (removal sizes c root (now (words .entry)) label (named label stamp)) (wordsMoved (sizes .z) (pathList (sizes .h) label)) (now (words .entry)) (now (words .exit)) out ⌝ }
+// The buckets are written; or nothing, where it is Damaged.
+fn write_removal(words: &mut [u64], path: &[u64], sizes: Sizes, out: Settled) -> Settled
+    requires { ⌜ (Cut sizes) × ((StoreRoom sizes (now words) (now path)) × (out .moved ≤ 4294967295)) ⌝ }
+    ensures { λ done. ⌜ Writes (now (path .entry)) (sizes .h * (2 * bucketWords (sizes .z))) (now (words .entry)) (now (words .exit)) out done ⌝ }
 {
-    let out = prepare_removal(words, w, sibs, path, root, sizes, t, c, least, label, stamp);
     if out.damaged {
         return out;
     }
-    let stores = mend::write_path(words, path, sizes);
+    let stores = writing::write_path(words, path, sizes);
     Settled {
         moved: out.moved + stores,
         ..out
@@ -118,24 +110,9 @@ pub fn settle_removal(
     requires { ⌜ RemovalRoom sizes t c label (now words) ⌝ }
     ensures { λ out. ⌜ Settles root least c (removalDamaged sizes t c root least (now (words .entry)) label (named label stamp)) (removal sizes c root (now (words .entry)) label (named label stamp)) (wordsMoved (sizes .z) (pathList (sizes .h) label)) (now (words .entry)) (now (words .exit)) out ⌝ }
 {
-    let h = sizes.h as usize;
-    let slots = way_words(sizes, h);
     let buckets = path_words(sizes);
-    let siblings = RECORD_WORDS * h;
-    let mut w = [0u64; WAY_MOST];
-    let mut sibs = [0u64; SIBLINGS_MOST];
-    let mut path = [0u64; PATH_MOST];
-    write_removal(
-        words,
-        &mut w[0..slots],
-        &mut sibs[0..siblings],
-        &mut path[0..buckets],
-        root,
-        sizes,
-        t,
-        c,
-        least,
-        label,
-        stamp,
-    )
+    let mut prepared = [0u64; PATH_MOST];
+    let path = &mut prepared[0..buckets];
+    let out = prepare_removal(words, path, root, sizes, t, c, least, label, stamp);
+    write_removal(words, path, sizes, out)
 }

@@ -5,18 +5,13 @@ use mathlib.Core.Path.{_≡_, sym, ap, subst}
 use Rattle.decimal.specs.Promises.{Laid}
 use Rattle.lines.specs.declared.Line.{Line}
 use Rattle.lines.specs.Says.{lineSays}
-use Rattle.frames.specs.Answer.{answerLine}
-use Rattle.card.specs.declared.Answer.{Answer}
-use Rattle.turns.specs.declared.Desk.{Desk}
-use Rattle.turns.specs.declared.Reply.{Reply}
-use Rattle.turns.specs.declared.Turn.{Turn}
-use Rattle.turns.specs.Step.{Steps}
-use Rattle.replies.specs.Reply.{numbersOf, bytesOf, Prints}
+use Rattle.steps.specs.declared.Desk.{Desk}
+use Rattle.steps.specs.declared.Reply.{Reply}
+use Rattle.steps.specs.declared.Turn.{Turn}
+use Rattle.steps.specs.Step.{Steps}
+use Rattle.replies.specs.Reply.{bytesOf, Prints}
 
 module _ (out : List ℕ) (n : ℕ) (printed : List ℕ) where
-  pub said-as : (a b : Answer) → a ≡ b → Laid (answerLine (numbersOf b)) out n printed → Laid (answerLine (numbersOf a)) out n printed
-  said-as a b e = subst (λ (x : Answer). Laid (answerLine (numbersOf x)) out n printed) (sym e)
-
   pub reply-as : (a b : Reply) → a ≡ b → Laid (bytesOf b) out n printed → Laid (bytesOf a) out n printed
   reply-as a b e = subst (λ (x : Reply). Laid (bytesOf x) out n printed) (sym e)
 

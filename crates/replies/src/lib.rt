@@ -1,12 +1,9 @@
-// A line of bytes in, the desk's reply in bytes out: document 01, "What the desk sees". Stands on `lines`, `turns` and `frames`.
+// A line of bytes in, the desk's reply in bytes out: document 01, "What the desk sees". Stands on `lines`, `turns`, `frames` and `said`.
 ghost use mathlib.Core.Path.{_≡_};
 ghost use Rattle.decimal.specs.Promises.{Laid};
 ghost use Rattle.replies.specs.Reply.{bytesOf, Prints};
-
-mod said;
-
-use turns::Desk;
-use turns::Reply;
+use steps::Desk;
+use steps::Reply;
 
 // The desk afterwards, and how many bytes were printed.
 pub struct Printed {

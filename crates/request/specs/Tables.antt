@@ -9,9 +9,9 @@ use Rattle.record.specs.declared.Stamp.{Stamp}
 use Rattle.record.specs.declared.Record.{Record}
 use Rattle.record.specs.Standing.{dummyKey, known}
 use Rattle.path.specs.declared.sizes.Sizes.{Sizes}
-use Rattle.path.specs.declared.list.Listed.{Listed as Counts}
+use Rattle.lists.specs.declared.Listed.{Listed as Counts}
 use Rattle.path.specs.Sizes.{leavesOf}
-use Rattle.path.specs.BucketList.{pairCounts, pathCounts}
+use Rattle.lists.specs.BucketList.{pairCounts, pathCounts}
 use Rattle.root.specs.Root.{rootFull}
 use Rattle.refusal.specs.Refusal.{Refusal, row}
 use Rattle.request.specs.declared.Waiting.{Waiting}

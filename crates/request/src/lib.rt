@@ -1,15 +1,15 @@
 // A request: document 01, "A request, step by step". What waits on a card, when a request is refused with a number from 4 to
 // 10 ("Refusal numbers"), and how much room its list and its words need. The root goes in as words, four to a place, so that
 // nothing copies 64 records.
-// Stands on `record`, `path`, `refusal`, `root`.
+// Stands on `record`, `path`, `lists`, `refusal`, `root`.
 ghost use mathlib.Core.Path.{_≡_};
 ghost use Prim.Native.Nat.{_≤_, _*_};
 ghost use lib.ListN.{length};
 ghost use Rattle.record.specs.Words.{records};
-ghost use Rattle.path.specs.BucketList.{fetchedFor};
+ghost use Rattle.lists.specs.BucketList.{fetchedFor};
 ghost use Rattle.refusal.specs.Refusal.{firstGiven};
 ghost use Rattle.request.specs.Tables.{insertRows, extractRows, deleteRows, requestRows, waits, countsFor};
-use path::Listed;
+use lists::Listed;
 use path::Sizes;
 use path::leaves;
 use record::DUMMY_KEY;
@@ -161,9 +161,9 @@ pub fn counts_for(sizes: Sizes, request: Waiting) -> Listed
             label: _,
             first: _,
             second: _,
-        } => sizes.pair_counts(),
-        Waiting::Extract => sizes.path_counts(),
-        Waiting::Delete { label: _, stamp: _ } => sizes.path_counts(),
+        } => lists::pair_counts(sizes),
+        Waiting::Extract => lists::path_counts(sizes),
+        Waiting::Delete { label: _, stamp: _ } => lists::path_counts(sizes),
     }
 }
 

@@ -1,17 +1,14 @@
 -- A request that is begun, carried to its end: what fetch, finish and store promise, taken together. Assumes nothing.
 use Prim.Native.Nat.{ℕ}
-use mathlib.Core.Bool.{Bool, true, false, not}
 use mathlib.Core.List.{List}
 use mathlib.Core.Path.{_≡_, refl, sym, ap, subst, _∙_}
 use lib.ListN.{length}
-use borrow.Author.Tests.{eqb-false, not-true}
-use Rattle.path.specs.declared.list.Listed.{Listed as Counts}
-use Rattle.path.specs.BucketList.{BucketList}
+use Rattle.lists.specs.declared.Listed.{Listed as Counts}
+use Rattle.lists.specs.BucketList.{BucketList}
 use Rattle.rack.specs.declared.Answer.{Answer}
-use Rattle.rack.specs.Answers.{answerNumber, isDone, copyTable}
-use Rattle.rack.specs.Copy.{listed, stored}
+use Rattle.rack.specs.Answers.{answerNumber, copyTable}
+use Rattle.copies.specs.Copy.{listed, stored}
 use Rattle.rack.specs.Promises.{Fetches, Stores}
-use Rattle.rack.proofs.AnswerLaws.{passed}
 use Rattle.refusal.specs.Refusal.{firstGiven}
 use Rattle.settle.specs.Left.{wordsLeft}
 use Rattle.card.specs.declared.Card.{Card}
@@ -26,19 +23,18 @@ module _ (k b : Card) (list : List ℕ) (n : Counts) (tree : List ℕ) where
   l = listed list (n .whole) (n .least)
 
   module _ (a : Answer) (words : List ℕ) (f : Fetches (b .sizes .h) (b .sizes .z) tree list (n .whole) (n .least) wordPlaces a words)
-      (t : Bool) (e : t ≡ isDone a) where
-    pub fetch-refuses : not t ≡ true → (number : ℕ) → number ≡ answerNumber a → (d : Done) → d ≡ refused k number
-        → Carries k 0 b list n l tree tree d
+      (said : ℕ) (e : said ≡ answerNumber a) where
+    rack-says : rackRefusal b list n l tree ≡ said
     unfolding rackRefusal
-    fetch-refuses u number m d r =
-        let some : number ≡ 0 → ⊥ = λ z. eqb-false (answerNumber a) 0 (sym e ∙ not-true t u) (sym m ∙ z) in
-        let own : rackRefusal b list n l tree ≡ number = sym (f .number) ∙ sym m in
-        round-refused k 0 b list n l tree number d (or-first (rackRefusal b list n l tree) _ (λ z. some (sym own ∙ z)) ∙ own) some r
+    rack-says = sym (f .number) ∙ sym e
 
-    module _ (u : not t ≡ false) where
+    pub fetch-refuses : (said ≡ 0 → ⊥) → (d : Done) → d ≡ refused k said → Carries k 0 b list n l tree tree d
+    fetch-refuses some d r =
+        round-refused k 0 b list n l tree said d (or-first (rackRefusal b list n l tree) _ (λ z. some (sym rack-says ∙ z)) ∙ rack-says) some r
+
+    module _ (u : said ≡ 0) where
       passes : rackRefusal b list n l tree ≡ 0
-      unfolding rackRefusal
-      passes = passed _ a t (f .number) e u
+      passes = rack-says ∙ u
 
       words-shown : words ≡ shown b list n l tree
       unfolding rackRefusal

@@ -5,10 +5,10 @@ use mathlib.Core.Path.{_≡_, refl, sym, ap, subst, _∙_}
 use native.Mathlib.Omega.{arith}
 use lib.ListN.{length}
 use borrow.Author.Tests.{ne-eqb}
-use Rattle.path.specs.declared.list.Listed.{Listed as Counts}
-use Rattle.path.specs.BucketList.{BucketList, counts, laid}
+use Rattle.lists.specs.declared.Listed.{Listed as Counts}
+use Rattle.lists.specs.BucketList.{BucketList, counts, laid}
 use Rattle.rack.specs.Refusals.{afterwards}
-use Rattle.rack.specs.Copy.{listed}
+use Rattle.copies.specs.Copy.{listed}
 use Rattle.rack.proofs.ListedLaws.{listed-laid}
 use Rattle.refusal.specs.Refusal.{firstGiven}
 use Rattle.card.specs.declared.Card.{Card}

@@ -1,31 +1,11 @@
-// What an answer of the card says: its number, and the counts of a list.
+// What an answer of the card says: the counts of a list.
 ghost use mathlib.Core.Path.{_≡_};
-ghost use Rattle.card.specs.Answers.{numberOf, refused};
+ghost use Rattle.card.specs.Answers.{refused};
 ghost use Rattle.rounds.specs.Round.{countsIn};
 use card::Answer;
 use card::Card;
 use card::Done;
-use path::Listed;
-
-// The number of a refusal; 0 for none.
-pub(crate) fn number(answer: Answer) -> u64
-    ensures { λ r. ⌜ r ≡ numberOf answer ⌝ }
-{
-    match answer {
-        Answer::Started => 0,
-        Answer::Listed { whole: _, least: _ } => 0,
-        Answer::Least(_) => 0,
-        Answer::Withdrawn => 0,
-        Answer::Inserted {
-            label: _,
-            stamp: _,
-            words: _,
-        } => 0,
-        Answer::Extracted { event: _, words: _ } => 0,
-        Answer::Deleted { found: _, words: _ } => 0,
-        Answer::Refused(number) => number,
-    }
-}
+use lists::Listed;
 
 // How many buckets a begin listed; none where the answer is no list.
 pub(crate) fn counts(answer: Answer) -> Listed

@@ -1,12 +1,12 @@
 // A request that is begun, carried to its end: document 01, "A request, step by step". `card` is the card before its begin.
 ghost use mathlib.Core.Path.{_≡_};
 ghost use Rattle.card.specs.Answers.{numberOf};
-ghost use Rattle.rack.specs.Copy.{listed};
+ghost use Rattle.copies.specs.Copy.{listed};
 ghost use Rattle.rounds.specs.Round.{countsIn, Carries};
 use crate::answer;
 use card::Card;
 use card::Done;
-use path::Listed;
+use lists::Listed;
 
 // The most words that are fetched: 32 whole buckets of 24 words, and 30 least records.
 const WORDS_MOST: usize = 888;
@@ -19,12 +19,13 @@ fn carry(card: Card, begun: Card, list: &[u64], n: Listed, tree: &mut [u64]) -> 
     let h = begun.sizes.h;
     let z = begun.sizes.z;
     let fetched = rack::fetch(h, z, tree, list, n.whole, n.least, &mut words);
-    if !fetched.is_done() {
-        return answer::refuse(card, fetched.number());
+    let refused = fetched.number();
+    if refused != 0 {
+        return answer::refuse(card, refused);
     }
     let done = begun.finish(&mut words);
     let given = done.answer;
-    let said = answer::number(given);
+    let said = values::number_of(given);
     if said != 0 {
         return answer::refuse(card, said);
     }
@@ -37,7 +38,7 @@ pub(crate) fn go_on(card: Card, begun: Done, list: &[u64], tree: &mut [u64]) -> 
     ensures { λ d. ⌜ Carries card (numberOf (begun .answer)) (begun .card) (now (list .entry)) (countsIn (begun .answer)) (listed (now (list .entry)) (countsIn (begun .answer) .whole) (countsIn (begun .answer) .least)) (now (tree .entry)) (now (tree .exit)) d ⌝ }
 {
     let given = begun.answer;
-    let number = answer::number(given);
+    let number = values::number_of(given);
     if number != 0 {
         return answer::refuse(card, number);
     }

@@ -11,13 +11,13 @@ use Rattle.record.specs.declared.Record.{Record}
 use Rattle.record.specs.Standing.{dummyKey, recordOf, isProper, same}
 use Rattle.record.proofs.StandingLaws.{true-proper, below-known}
 use Rattle.path.specs.Sizes.{leavesOf}
-use Rattle.path.specs.BucketList.{pathList, pairList}
+use Rattle.lists.specs.BucketList.{pathList, pairList}
 use Rattle.path.proofs.SizesLaws.{in-range}
-use Rattle.gather.specs.Removal.{named, found}
+use Rattle.clearing.specs.Removal.{named, found}
 use Rattle.refusal.specs.Refusal.{firstGiven}
 use Rattle.judge.specs.BadParts.{stampOf}
 use Rattle.settle.specs.Left.{Left, wordsLeft, removal, insertion, removalDamaged, insertionDamaged}
-use Rattle.rack.specs.Copy.{fetched, stored}
+use Rattle.copies.specs.Copy.{fetched, stored}
 use Rattle.card.specs.declared.Card.{Card}
 use Rattle.request.specs.declared.Waiting.the-variants.{Insert, Extract, Delete}
 use Rattle.card.specs.Tables.{nextStamp, requestTable}

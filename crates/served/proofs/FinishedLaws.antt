@@ -11,8 +11,8 @@ use Rattle.record.specs.declared.Record.{Record}
 use Rattle.record.specs.Standing.{dummyKey, same}
 use Rattle.record.proofs.StandingLaws.{same-refl}
 use Rattle.refusal.specs.Refusal.{firstGiven}
-use Rattle.settle.specs.Left.{wordsLeft}
-use Rattle.rack.specs.Copy.{fetched, stored}
+use Rattle.settle.specs.Left.{Left, wordsLeft}
+use Rattle.copies.specs.Copy.{fetched, stored}
 use Rattle.card.specs.declared.Card.{Card}
 use Rattle.request.specs.declared.Waiting.{Waiting}
 use Rattle.request.specs.declared.Waiting.the-variants.{Nothing, Insert, Extract, Delete}
@@ -20,7 +20,7 @@ use Rattle.request.specs.Tables.{waits}
 use Rattle.card.specs.declared.Done.{Done}
 use Rattle.card.specs.Answers.{orRefused}
 use Rattle.card.specs.Calls.{listOf}
-use Rattle.card.specs.Finish.{leftBy, damagedBy, cardLeft, wordsNeeded, entryTable, finishTable, finished, Finishes}
+use Rattle.card.specs.Finish.{leftBy, damagedBy, cardLeft, wordsNeeded, entryTable, finishTable, finishedBy, finished, Finishes}
 use Rattle.served.specs.Ready.{Ready}
 use Rattle.served.specs.LiveAfter.{liveAfter}
 use Rattle.served.proofs.CallLaws.{ready-card, ready-least}
@@ -32,6 +32,14 @@ WordKey Nothing = Unit {0}
 WordKey (Insert key value label first second) = key ≤ dummyKey
 WordKey Extract = Unit {0}
 WordKey (Delete label stamp) = Unit {0}
+
+-- the card that a finish hands back is the one that the work left
+pub finished-card : (k : Card) (w : Waiting) (l : Left) → waits w ≡ true → finishedBy k w l .card ≡ cardLeft k l
+unfolding finishedBy waits
+finished-card k Nothing l e = absurd (true≢false (sym e))
+finished-card k (Insert key value label first second) l e = refl
+finished-card k Extract l e = refl
+finished-card k (Delete label stamp) l e = refl
 
 module _ (k : Card) (tree words : List ℕ) (live : List Record) (r : Ready k tree live) where
   abbrev shown : Waiting → List ℕ

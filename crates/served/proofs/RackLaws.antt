@@ -1,7 +1,7 @@
 -- The rack's part of a request on a ready card: a fetch and a store by the list that begin laid are not refused, the fetched
 -- words are those of the request's own list, and the store leaves the tree that the laws of finish speak of. Assumes nothing.
 use Prim.Native.Nat.{ℕ, _≤_}
-use mathlib.Core.Bool.{true, false, and-eq-true-iff}
+use mathlib.Core.Bool.{true, false}
 use mathlib.Core.List.{List, [], _++_}
 use mathlib.Core.Path.{_≡_, refl, ap, _∙_}
 use native.Mathlib.Omega.{arith}
@@ -9,15 +9,15 @@ use lib.ListN.{length, drop, length-append, length-drop}
 use Rattle.record.specs.declared.Leaf.{Leaf}
 use Rattle.record.specs.declared.Stamp.{Stamp}
 use Rattle.record.specs.declared.Record.{Record}
-use Rattle.path.specs.Sizes.{treeIn, inRange}
+use Rattle.path.specs.Sizes.{treeIn}
 use Rattle.path.specs.Layout.{treeWords}
-use Rattle.path.specs.BucketList.{BucketList, numbers, laid, counts}
-use Rattle.path.proofs.SizesLaws.{in-range}
+use Rattle.lists.specs.BucketList.{BucketList, numbers, laid, counts}
+use Rattle.path.proofs.SizesLaws.{in-range, tree-range}
 use Rattle.rack.specs.declared.Answer.{Answer}
 use Rattle.rack.specs.Answers.{answerNumber, wordsFor, anyOutside, copyRefusal}
 use Rattle.mend.specs.Mended.{pathWords}
 use Rattle.settle.specs.Left.{Left, wordsLeft}
-use Rattle.rack.specs.Copy.{fetchedWords, fetched, stored}
+use Rattle.copies.specs.Copy.{fetchedWords, fetched, stored}
 use Rattle.rack.specs.Promises.{Fetches, Stores}
 use Rattle.rack.proofs.ListedLaws.{listed-laid, laid-passes, path-list-inside, pair-list-inside}
 use Rattle.card.specs.declared.Card.{Card}
@@ -78,10 +78,6 @@ module _ (k : Card) (tree : List ℕ) (live : List Record) (r : Ready k tree liv
   list-inside Extract e = extract-inside e
   list-inside (Delete label stamp) e = delete-inside label stamp e
 
-  tree-range : treeIn (k .sizes .h) (k .sizes .z) ≡ true
-  unfolding inRange
-  tree-range = and-eq-true-iff (treeIn (k .sizes .h) (k .sizes .z)) _ .0 (r .heap .sizes) .0
-
   -- ---- the calls, with the list that begin laid in any places
   module _ (places words : List ℕ) where
     abbrev l : BucketList
@@ -92,14 +88,14 @@ module _ (k : Card) (tree : List ℕ) (live : List Record) (r : Ready k tree liv
           Fetches (k .sizes .h) (k .sizes .z) tree (laid l places) (counts l .whole) (counts l .least) words answer after
           → (answerNumber answer ≡ 0) × (after ≡ fetched (k .sizes .z) tree l words)
       ready-fetched =
-          list-fetched (k .sizes .h) (k .sizes .z) tree words l places tree-range (r .heap .words)
+          list-fetched (k .sizes .h) (k .sizes .z) tree words l places (tree-range (k .sizes) (r .heap .sizes)) (r .heap .words)
           (list-inside (k .waiting) (r .waiting)) room answer after
 
       pub ready-stored :
           Stores (k .sizes .h) (k .sizes .z) tree (laid l places) (counts l .whole) (counts l .least) words answer after
           → (answerNumber answer ≡ 0) × (after ≡ stored (k .sizes .z) (l .whole) words tree)
       ready-stored =
-          list-stored (k .sizes .h) (k .sizes .z) tree words l places tree-range (r .heap .words)
+          list-stored (k .sizes .h) (k .sizes .z) tree words l places (tree-range (k .sizes) (r .heap .sizes)) (r .heap .words)
           (list-inside (k .waiting) (r .waiting)) room answer after
 
 -- words once fetched into, and words once finished, are no fewer

@@ -6,7 +6,7 @@ use mathlib.Core.List.{List, [], _∷_, _++_}
 use Rattle.record.specs.declared.Record.{Record}
 use Rattle.record.specs.Standing.{recordOf}
 use Rattle.record.specs.Order.{smallest}
-use Rattle.gather.specs.Removal.{named, found}
+use Rattle.clearing.specs.Removal.{named, found}
 use Rattle.judge.specs.BadParts.{stampOf}
 use Rattle.request.specs.declared.Waiting.{Waiting}
 use Rattle.request.specs.declared.Waiting.the-variants.{Nothing, Insert, Extract, Delete}

@@ -1,6 +1,6 @@
 -- A finish that is Damaged, one that is worked out, and one that is written. Assumes nothing.
 use Prim.Native.Nat.{ℕ, _+_, _*_, _≤_}
-use mathlib.Core.Bool.{Bool, true, false, true≢false}
+use mathlib.Core.Bool.{Bool, true, false, _||_, true≢false}
 use mathlib.Core.List.{List, _++_}
 use mathlib.Core.Path.{_≡_, refl, sym, ap, _∙_}
 use mathlib.Core.Logic.{inl, inr}
@@ -12,10 +12,11 @@ use Rattle.record.specs.declared.Record.{Record}
 use Rattle.path.specs.declared.sizes.Sizes.{Sizes}
 use Rattle.path.specs.Layout.{recordWords, bucketWords}
 use Rattle.mend.specs.Mended.{pathWords}
+use Rattle.judge.specs.BadParts.{badParts}
 use Rattle.settle.specs.declared.Settled.{Settled}
 use Rattle.settle.specs.Room.{Cut}
 use Rattle.settle.specs.Left.{Left, wordsLeft}
-use Rattle.settle.specs.Settled.{settled, unsettled, Prepares, Settles}
+use Rattle.settle.specs.Settled.{settled, unsettled, judged, Prepares, Writes, Settles}
 
 module _ (root : List Record) (least : Record) (c : ℕ) (damaged : Bool) (l : Left) (siblings : ℕ) (path : List ℕ) (out : Settled) where
   pub not-prepared : damaged ≡ true → out ≡ unsettled root least c → Prepares root least c damaged l siblings path out
@@ -25,36 +26,39 @@ module _ (root : List Record) (least : Record) (c : ℕ) (damaged : Bool) (l : L
       → Prepares root least c damaged l siblings path out
   prepared e f g = record { whole = rw e f; ready = λ d. g }
 
+  -- all was worked out, and what would come out is judged: `bad` is the verdict on what was fetched, which passed
+  pub is-prepared : (s : Sizes) (t : ℕ) (bad : Bool) (next : Settled) → damaged ≡ (bad || badParts s t (l .c) (l .root) (l .least))
+      → bad ≡ false → next ≡ settled l (siblings * recordWords) → path ≡ pathWords (l .buckets) → out ≡ judged root least c s t next
+      → Prepares root least c damaged l siblings path out
+  unfolding judged
+  is-prepared s t bad next whole passed same ready e = elim (dichotomy (badParts s t (l .c) (l .root) (l .least))) [
+    | inl g ↦ prepared (whole ∙ rw (passed, g)) (e ∙ rw (same, g)) ready
+    | inr b ↦ not-prepared (whole ∙ rw (passed, b)) (e ∙ rw (same, b))
+  ]
+
   module _ (p : Prepares root least c damaged l siblings path out) where
-    told : (d : Bool) → damaged ≡ d → out .damaged ≡ d
-    told true e = ap (λ (o : Settled). o .damaged) (rw e at (p .whole))
-    told false e = ap (λ (o : Settled). o .damaged) (rw e at (p .whole))
+    counted : (d : Bool) → damaged ≡ d → out .moved ≤ siblings * recordWords
+    counted true e = let m : out .moved ≡ 0 = ap (λ (o : Settled). o .moved) (rw e at (p .whole)) in omega arith
+    counted false e =
+        let m : out .moved ≡ siblings * recordWords = ap (λ (o : Settled). o .moved) (rw e at (p .whole)) in
+        omega arith
 
-    is-damaged : out .damaged ≡ damaged
-    is-damaged = told damaged refl
+    -- at most the siblings' words are counted so far
+    pub moved-few : out .moved ≤ siblings * recordWords
+    moved-few = counted damaged refl
 
-    -- nothing was written
-    pub not-settled : (moved : ℕ) (ws : List ℕ) → out .damaged ≡ true → Settles root least c damaged l moved ws ws out
-    not-settled moved ws e =
-        let d = sym is-damaged ∙ e in
-        record { whole = rw d (rw d at (p .whole)); words = rw d }
-
-    -- the buckets were written, and the words moved for them counted
-    module _ (ready : out .damaged ≡ false) where
-      pub buckets-ready : path ≡ pathWords (l .buckets)
-      buckets-ready = p .ready (sym is-damaged ∙ ready)
-
-      pub counted-so-far : out .moved ≡ siblings * recordWords
-      counted-so-far = ap (λ (o : Settled). o .moved) (rw (sym is-damaged ∙ ready) at (p .whole))
-
-      pub is-settled : (moved stores : ℕ) (before after : List ℕ) → siblings * recordWords + stores ≡ moved
-          → after ≡ path ++ drop (length path) before
-          → Settles root least c damaged l moved before after
-          (record { root = out .root; least = out .least; c = out .c; found = out .found; moved = out .moved + stores; damaged = out .damaged })
-      is-settled moved stores before after count e =
-          let d = sym is-damaged ∙ ready in
-          let w : out ≡ settled l (siblings * recordWords) = rw d at (p .whole) in
-          record { whole = rw (d, w, ← count); words = rw (d, ← buckets-ready) e }
+    -- what was prepared is written, or nothing is
+    pub is-settled : (moved stores : ℕ) (before after : List ℕ) (done : Settled) → siblings * recordWords + stores ≡ moved
+        → Writes path stores before after out done → Settles root least c damaged l moved before after done
+    is-settled moved stores before after done count q = elim (dichotomy damaged) [
+      | inl f ↦
+          let w : out ≡ settled l (siblings * recordWords) = rw f at (p .whole) in
+          let e : done ≡ settled l (siblings * recordWords + stores) = rw w at (q .whole) in
+          record { whole = rw (f, ← count) e; words = rw (f, ← p .ready f) (rw w at (q .words)) }
+      | inr t ↦
+          let w : out ≡ unsettled root least c = rw t at (p .whole) in
+          record { whole = rw t (rw w at (q .whole)); words = rw t (rw w at (q .words)) }
+    ]
 
 -- what is left is told apart only where it is not Damaged
 pub settles-same :

@@ -8,12 +8,15 @@ use Rattle.record.specs.declared.Leaf.{Leaf}
 use Rattle.record.specs.declared.Record.{Record}
 use Rattle.path.specs.declared.sizes.Sizes.{Sizes}
 use Rattle.path.specs.Layout.{Contents}
-use Rattle.gather.specs.Removal.{found}
+use Rattle.clearing.specs.Removal.{found}
 use Rattle.gather.specs.Shown.{siblingsShown, slotsShown, wayShown}
 use Rattle.mend.specs.Mended.{pathWords}
-use Rattle.damage.specs.Damaged.{pathFetched, firstFetched, secondFetched, pathDamaged, pairDamaged}
+use Rattle.sound.specs.Fetched.{pathFetched, firstFetched, secondFetched}
+use Rattle.damage.specs.Damaged.{pathDamaged, pairDamaged}
 use Rattle.judge.specs.BadParts.{stampOf, badParts}
-use Rattle.work.specs.Work.{rootAfter, leastAfter, removalBuckets, removalRoot, removalLeast, rooted, firstSiblings, secondSiblings, secondWay, secondBeside, firstBuckets, secondBuckets}
+use Rattle.work.specs.PathWork.{rootAfter, leastAfter}
+use Rattle.work.specs.RemovalWork.{removalBuckets, removalRoot, removalLeast, rooted}
+use Rattle.pair.specs.PairWork.{firstSiblings, secondSiblings, secondWay, secondBeside, firstBuckets, secondBuckets}
 
 -- the root's 64 places and its least record, the count of live events, whether a record was found to remove, and the whole
 -- buckets in list order

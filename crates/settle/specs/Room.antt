@@ -24,21 +24,8 @@ pub record RemovalRoom (s : Sizes) (t c : ℕ) (q : Leaf) (ws : List ℕ) : Type
   pub leaf : q .0 < leavesOf (s .h)
   pub fetched : 4 * (s .h * (s .z + 1) + s .h) ≤ length ws
 
-pub record RemovalScratch (s : Sizes) (w sibs path : List ℕ) : Type 0 where
-  pub slots : length w ≡ 4 * (s .r + s .z * s .h)
-  pub siblings : length sibs ≡ 4 * s .h
-  pub buckets : length path ≡ s .h * bucketWords (s .z)
-
 pub record InsertionRoom (s : Sizes) (t c : ℕ) (first second : Leaf) (ws : List ℕ) : Type 0 where
   pub parts : Parts s t c
   pub lower : first .0 < leavesOf (s .h)
   pub upper : second .0 < leavesOf (s .h)
   pub fetched : 4 * (2 * s .h * (s .z + 1) + 2 * (s .h - 1)) ≤ length ws
-
-pub record InsertionScratch (s : Sizes) (w one two all path₁ path₂ : List ℕ) : Type 0 where
-  pub slots : length w ≡ 4 * (s .r + s .z * s .h)
-  pub firsts : length one ≡ 4 * s .h
-  pub seconds : length two ≡ 4 * s .h
-  pub both : length all ≡ 4 * (s .r + s .z * (2 * s .h))
-  pub lowers : length path₁ ≡ s .h * bucketWords (s .z)
-  pub uppers : length path₂ ≡ s .h * bucketWords (s .z)

@@ -7,7 +7,7 @@ ghost use Prim.Native.Nat.{_+_, _*_, _≤_};
 ghost use Rattle.path.specs.Layout.{bucketWords};
 ghost use Rattle.judge.specs.BadParts.{badParts};
 ghost use Rattle.settle.specs.Room.{Cut};
-ghost use Rattle.settle.specs.Settled.{unsettled};
+ghost use Rattle.settle.specs.Settled.{unsettled, judged};
 use judge::ROOT_PLACES;
 use path::Sizes;
 use record::RECORD_WORDS;
@@ -68,11 +68,30 @@ pub fn unsettled(root: [Record; 64], least: Record, c: u64) -> Settled
     }
 }
 
-// For crates above: "or the card that would come out is a BadCard"; no request waits on it.
-pub fn comes_out_bad(root: [Record; 64], sizes: Sizes, t: u64, c: u64, least: Record) -> bool
+// "or the card that would come out is a BadCard"; no request waits on it.
+fn comes_out_bad(root: [Record; 64], sizes: Sizes, t: u64, c: u64, least: Record) -> bool
     ensures { λ b. ⌜ b ≡ badParts sizes t c root least ⌝ }
 {
     let mut places = [0u64; 256];
     gather::load_root(&mut places, root, ROOT_PLACES);
     judge::are_parts_bad(&places, sizes, t, c, least)
+}
+
+// For crates above: what would come out of a finish; or, where that is a BadCard, Damaged.
+pub fn judged(
+    root: [Record; 64],
+    least: Record,
+    c: u64,
+    sizes: Sizes,
+    t: u64,
+    next: Settled,
+) -> Settled
+    ensures { λ out. ⌜ out ≡ judged root least c sizes t next ⌝ }
+{
+    let next_root = next.root;
+    let next_least = next.least;
+    if comes_out_bad(next_root, sizes, t, next.c, next_least) {
+        return unsettled(root, least, c);
+    }
+    next
 }

@@ -4,11 +4,12 @@ use mathlib.Core.List.{List}
 use mathlib.Core.Path.{ap}
 use native.Mathlib.Omega.{arith}
 use lib.ListN.{length, drop, length-append}
+use Rattle.output.specs.Output.{repliesTo}
+use Rattle.output.specs.Room.{replyMost}
+use Rattle.output.proofs.TakenLaws.{taken-within, taken-some}
 use Rattle.sitting.specs.declared.Sitting.{Sitting}
 use Rattle.sitting.specs.declared.Fed.{Fed}
-use Rattle.sitting.specs.Output.{repliesTo}
-use Rattle.sitting.specs.Sitting.{replyMost, stateOf, openLine, heardIn, Feeds}
-use Rattle.sitting.proofs.TakenLaws.{taken-within, taken-some}
+use Rattle.sitting.specs.Sitting.{stateOf, openLine, heardIn, Feeds}
 
 module _ (s : Sitting) (tree later chunk out : List ℕ) (r : Fed) (printed : List ℕ) (f : Feeds s tree later chunk out r printed) where
   pub feeds-within : r .taken ≤ length chunk

@@ -1,27 +1,25 @@
 -- The loop over a chunk, by what its calls promise: each turn, and what it comes to. Assumes nothing.
 use Prim.Native.Nat.{ℕ, _+_, _-_, _≤_, _<_, min}
-use mathlib.Core.Bool.{Bool, true, false, _&&_}
+use mathlib.Core.Bool.{Bool, true, false, _&&_, and-eq-true-iff as both}
 use mathlib.Core.List.{List, [], _++_, append-nil}
 use mathlib.Core.Path.{_≡_, sym, ap, subst, _∙_}
 use native.Mathlib.Omega.{arith}
 use lib.Dec.{ltb, leb}
-use lib.ListN.{length, take, drop, replicate, length-append, length-drop, drop-of-length-le}
+use lib.ListN.{length, take, drop, replicate, length-drop, drop-of-length-le}
 use lib.Seq.{take-all}
 use borrow.Author.Tests.{ltb-true, leb-true}
 use borrow.Rule.Slice.PartMut.{midOf, postOf, putMid}
-use Rattle.decimal.proofs.ValueLaws.{both}
-use Rattle.decimal.proofs.PrintLaws.{laid-within}
 use Rattle.frames.specs.declared.Taken.{Taken}
-use Rattle.frames.specs.Framing.{begunBy, Takes}
+use Rattle.frames.specs.Framing.{Takes}
 use Rattle.frames.proofs.TakeLaws.{take-min, takes-some}
-use Rattle.turns.specs.declared.Desk.{Desk}
+use Rattle.steps.specs.declared.Desk.{Desk}
 use Rattle.replies.specs.declared.Printed.{Printed}
 use Rattle.replies.specs.Reply.{Prints}
+use Rattle.output.specs.Output.{State}
+use Rattle.output.specs.Room.{replyMost}
 use Rattle.sitting.specs.declared.Sitting.{Sitting}
-use Rattle.sitting.specs.declared.Fed.{Fed}
-use Rattle.sitting.specs.Output.{State}
-use Rattle.sitting.specs.Sitting.{replyMost, stateOf, openLine, Feeds}
-use Rattle.sitting.proofs.FeedLaws.{Feeding, feeding-room, feeding-open, feeding-ended, none-more, held-is, line-is}
+use Rattle.sitting.specs.Sitting.{stateOf, openLine, Feeds}
+use Rattle.output.proofs.FeedLaws.{Feeding, feeding-room, feeding-open, feeding-ended, none-more, held-is, line-is}
 
 module _
     (s₀ : State) (begun₀ chunk out₀ : List ℕ) (s : State) (line : List ℕ) (held taken written : ℕ) (out : List ℕ)
@@ -35,11 +33,11 @@ module _
         (line′ : List ℕ) (t : Takes line held chunk taken r line′)
       where
         more : taken < length chunk
-        more = ltb-true taken (length chunk) (both (ltb taken (length chunk)) (leb replyMost (length out - written)) (sym is ∙ on) .0)
+        more = ltb-true taken (length chunk) (both (ltb taken (length chunk)) (leb replyMost (length out - written)) .0 (sym is ∙ on) .0)
 
         room : replyMost ≤ length out₀ - written
         room =
-            let own = leb-true replyMost (length out - written) (both (ltb taken (length chunk)) (leb replyMost (length out - written)) (sym is ∙ on) .1) in
+            let own = leb-true replyMost (length out - written) (both (ltb taken (length chunk)) (leb replyMost (length out - written)) .0 (sym is ∙ on) .1) in
             omega (arith, own, feeding-room s₀ begun₀ chunk out₀ s line held taken written out f)
 
         pub turn-takes : (taken < r .next) × (r .next ≤ length chunk)

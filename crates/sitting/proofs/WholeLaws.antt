@@ -5,23 +5,24 @@ use mathlib.Core.List.{List, [], _∷_, _++_, append-assoc, append-nil}
 use mathlib.Core.Path.{_≡_, refl, sym, ap, _∙_}
 use native.Mathlib.Omega.{arith}
 use lib.Dec.{eqb}
-use lib.ListN.{length, take, drop, replicate}
+use lib.ListN.{length, take, replicate}
 use lib.Seq.{take-at, take-take}
 use Rattle.lines.specs.declared.Line.{Line}
-use Rattle.lines.specs.Pieces.{pieces}
+use Rattle.fields.specs.Pieces.{pieces}
 use Rattle.lines.specs.Says.{lineSays}
-use Rattle.turns.specs.Step.{stepOf}
-use Rattle.turns.specs.declared.Desk.{Desk}
+use Rattle.steps.specs.Step.{stepOf}
+use Rattle.steps.specs.declared.Desk.{Desk}
 use Rattle.decimal.proofs.PrintLaws.{laid-in-room}
 use Rattle.frames.specs.Framing.{endedIn, begunBy, lastOf}
 use Rattle.frames.proofs.FramingLaws.{cut-says, take-twice, ended-joined, begun-joined, input-heard}
+use Rattle.output.specs.Output.{State, repliesTo, behindAll, shut, outputOf}
+use Rattle.output.specs.Room.{replyMost, heldOf}
 use Rattle.sitting.specs.declared.Sitting.{Sitting}
-use Rattle.sitting.specs.Output.{State, replyTo, behind, repliesTo, behindAll, shut, opened, outputOf, wholeOutput}
-use Rattle.sitting.specs.Sitting.{replyMost, heldOf, sittingOf, begins, stateOf, openLine, heardIn, Feeds, Closes}
+use Rattle.sitting.specs.Sitting.{sittingOf, begins, stateOf, openLine, heardIn}
 use Rattle.sitting.specs.Run.{Sits}
-use Rattle.sitting.specs.Run.Sits.{closed, fed}
-use Rattle.sitting.proofs.OutputLaws.{replies-joined, replies-one, replies-none}
-use Rattle.sitting.proofs.ShortLaws.{reply-short}
+use Rattle.sitting.specs.Run.{closed, fed}
+use Rattle.output.proofs.OutputLaws.{replies-joined, replies-none}
+use Rattle.output.proofs.ShortLaws.{reply-short}
 
 -- ---- what is held stands for the line
 says-same : (a b : List ℕ) → heldOf a ≡ heldOf b → lineSays a ≡ lineSays b

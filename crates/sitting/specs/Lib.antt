@@ -1,4 +1,3 @@
 -- What a reader must believe of a sitting at the desk.
-pub mod Output
 pub mod Sitting
 pub mod Run

@@ -3,9 +3,10 @@
 use Prim.Native.Nat.{ℕ, _≤_}
 use mathlib.Core.List.{List, [], _++_}
 use lib.ListN.{length, take}
+use Rattle.output.specs.Room.{replyMost}
 use Rattle.sitting.specs.declared.Sitting.{Sitting}
 use Rattle.sitting.specs.declared.Fed.{Fed}
-use Rattle.sitting.specs.Sitting.{replyMost, Feeds, Closes}
+use Rattle.sitting.specs.Sitting.{Feeds, Closes}
 
 -- from a sitting and its lent words on: the bytes that were taken, joined, and those that were printed, joined
 pub data Sits : Sitting → List ℕ → List ℕ → List ℕ → Type 0 where

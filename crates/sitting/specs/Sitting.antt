@@ -1,38 +1,17 @@
 -- What is promised of a sitting, chunk by chunk: how far a chunk is taken, what is printed and what is held. Assumes nothing.
-use Prim.Native.Nat.{ℕ, suc, _-_}
-use mathlib.Core.Bool.{cond}
-use mathlib.Core.List.{List, [], _∷_, _++_}
+use Prim.Native.Nat.{ℕ, _-_}
+use mathlib.Core.List.{List, [], _++_}
 use mathlib.Core.Path.{_≡_}
-use lib.Dec.{leb, eqb}
 use lib.ListN.{length, take, drop, replicate}
 use Rattle.decimal.specs.Promises.{Laid}
 use Rattle.frames.specs.Framing.{endedIn, begunBy, lastOf}
-use Rattle.turns.specs.declared.Desk.{Desk}
+use Rattle.steps.specs.declared.Desk.{Desk}
+use Rattle.output.specs.Output.{State, repliesTo, behindAll, shut}
+use Rattle.output.specs.Room.{takenOf, heldOf}
 use Rattle.sitting.specs.declared.Sitting.{Sitting}
 use Rattle.sitting.specs.declared.Fed.{Fed}
-use Rattle.sitting.specs.Output.{State, replyTo, behind, repliesTo, behindAll, shut}
 
--- no reply is longer: 0 and five numbers of 20 digits, with a byte behind each
-abbrev pub replyMost : ℕ
-replyMost = 107
-
--- Bytes are taken one by one while the room holds one more reply; `begun` has come of the line. A line that ends takes its reply's
--- bytes of the room.
-unfoldable pub takenOf : State → List ℕ → ℕ → List ℕ → ℕ
-takenOf s begun room [] = 0
-takenOf s begun room (b ∷ bs) =
-    cond (leb replyMost room)
-    (suc
-    (cond (eqb b 10)
-    (takenOf (behind s begun) [] (room - length (replyTo s begun)) bs)
-    (takenOf s (begun ++ b ∷ []) room bs)))
-    0
-
--- ---- a sitting
--- what is held of an open line: all of it, or one byte more than a line may have; zeros behind it
-abbrev pub heldOf : List ℕ → List ℕ
-heldOf begun = take 129 begun
-
+-- the desk, and what is held of an open line with zeros behind it
 abbrev pub sittingOf : Desk → List ℕ → Sitting
 sittingOf desk begun =
     record {

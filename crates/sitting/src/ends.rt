@@ -5,7 +5,7 @@ use crate::LINE_HELD;
 use crate::Sitting;
 use crate::feeding::least;
 use card::Card;
-use turns::Desk;
+use steps::Desk;
 
 // Before any accepted `size` the card means nothing: it is the one that a refused start hands back.
 pub fn open() -> Sitting

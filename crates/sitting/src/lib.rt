@@ -6,7 +6,7 @@ mod feeding;
 pub use ends::close;
 pub use ends::open;
 pub use feeding::feed;
-use turns::Desk;
+use steps::Desk;
 
 // One byte more than a line may have: what is held then says what the line says.
 pub const LINE_HELD: usize = 129;

@@ -14,13 +14,13 @@ use Rattle.record.specs.Words.{records}
 use Rattle.record.proofs.WordsLaws.{records-take, records-drop}
 use Rattle.path.specs.Path.{bucket}
 use Rattle.path.specs.Layout.{recordWords, bucketWords, bucketStart}
-use Rattle.path.specs.BucketList.{BucketList}
+use Rattle.lists.specs.BucketList.{BucketList}
 use Rattle.gather.specs.Shown.{wholeAt, siblingAt}
 use Rattle.gather.proofs.ShownLaws.{whole-records}
 use Rattle.rack.specs.Answers.{wordsFor}
-use Rattle.rack.specs.Copy.{bucketPart, fetched, AllStand}
-use Rattle.rack.specs.BucketAt.{contentsOf, bucketAt}
-use Rattle.rack.proofs.FetchLaws.{fetched-whole, fetched-least, fetched-length}
+use Rattle.copies.specs.Copy.{bucketPart, fetched, AllStand}
+use Rattle.copies.specs.BucketAt.{contentsOf, bucketAt}
+use Rattle.copies.proofs.FetchLaws.{fetched-whole, fetched-least, fetched-length}
 
 first-of : (rs : List Record) → contentsOf rs .least ≡ getD rs 0 dummy
 first-of [] = refl

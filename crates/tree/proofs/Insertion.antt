@@ -14,15 +14,17 @@ use Rattle.record.specs.Standing.{isDummy}
 use Rattle.path.specs.declared.sizes.Sizes.{Sizes}
 use Rattle.path.specs.Path.{pathBucket, upFrom}
 use Rattle.path.specs.Layout.{Contents, treeWords}
-use Rattle.path.specs.BucketList.{pairList}
+use Rattle.lists.specs.BucketList.{pairList}
 use Rattle.way.specs.Evict.{seek}
-use Rattle.way.specs.Least.{mendedAt}
+use Rattle.least.specs.Least.{mendedAt}
 use Rattle.gather.specs.Shown.{slotsShown, wayShown}
 use Rattle.gather.proofs.ShownLaws.{way-length, slots-length}
 use Rattle.mend.specs.Mended.{pathWords}
-use Rattle.work.specs.Work.{slotsAfter, pathBuckets, rootAfter, leastAfter, seated, firstBuckets}
-use Rattle.work.specs.Work.{secondWay, secondBeside, secondBuckets, firstSiblings, secondSiblings, rooted}
-use Rattle.rack.specs.Copy.{fetched, stored}
+use Rattle.work.specs.PathWork.{slotsAfter, pathBuckets, rootAfter, leastAfter}
+use Rattle.pair.specs.PairWork.{seated, firstBuckets, secondWay, secondBeside, secondBuckets, firstSiblings, secondSiblings}
+use Rattle.work.specs.RemovalWork.{rooted}
+use Rattle.copies.specs.Copy.{fetched, stored}
+use Rattle.mend.proofs.PartLaws.{path-words-append}
 use Rattle.tree.specs.Tree.{Tree, Alike, wayOf, besideOf, contents, treeOf}
 use Rattle.tree.specs.Work.{worked, afterFirst, inserted}
 use Rattle.tree.proofs.PathLaws.{laid-root, laid-on, laid-off}
@@ -31,7 +33,7 @@ use Rattle.tree.proofs.Removal.{slots-after-length, root-after-length}
 use Rattle.tree.proofs.HalvesLaws.{Halves, first-inside, first-off}
 use Rattle.tree.proofs.PairWork.{first-buckets, second-way, second-buckets, second-root, second-least}
 use Rattle.tree.proofs.PairFetch.{pair-wholes, pair-leasts, pair-whole-count, pair-way, pair-slots, first-beside, second-beside}
-use Rattle.tree.proofs.PairStore.{path-words-append, pair-stored, pair-stored-length}
+use Rattle.tree.proofs.PairStore.{pair-stored, pair-stored-length}
 use Rattle.tree.proofs.ShownLaws.{belowOf}
 
 pub seated-length : (r : ℕ) (new : Record) (w : List Record) → length (seated r new w) ≡ length w

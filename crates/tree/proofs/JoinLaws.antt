@@ -10,7 +10,7 @@ use native.Mathlib.Omega.{arith}
 use lib.ListN.{length, take, length-append}
 use lib.Seq.{take-add, take-all, take-at, drop-at}
 use Rattle.record.specs.declared.Record.{Record}
-use Rattle.way.specs.Least.{slotsAt}
+use Rattle.least.specs.Least.{slotsAt}
 use Rattle.tree.specs.Tree.{joined}
 
 -- ---- records of a way

@@ -1,9 +1,9 @@
 -- An Insert's two paths stored: where finish has laid the first path's buckets, then the second's, over the first of the
 -- fetched words and the rack has stored them, card and tree hold the Tree with both paths laid back. Assumes nothing.
 use Prim.Native.Nat.{ℕ, suc, _+_, _*_, _-_, _≤_, _<_}
-use mathlib.Core.List.{List, [], _∷_, _++_, map, append-assoc, List·Memᴰ·append-cases}
+use mathlib.Core.List.{List, _++_, map, List·Memᴰ·append-cases}
 use mathlib.Core.Logic.{⊎-elim}
-use mathlib.Core.Path.{_≡_, refl, sym, ap, _∙_}
+use mathlib.Core.Path.{_≡_, sym, ap, _∙_}
 use native.Mathlib.Omega.{arith}
 use lib.ListN.{length, getD, length-append}
 use lib.Seq.{drop-drop, drop-at}
@@ -12,18 +12,18 @@ use Rattle.record.specs.declared.Bucket.{Bucket}
 use Rattle.record.specs.declared.Record.{Record}
 use Rattle.path.specs.Sizes.{leavesOf}
 use Rattle.path.specs.Path.{bucket, number, root, pathBucket, upFrom, path}
-use Rattle.path.specs.Layout.{Contents, bucketWords, treeWords, contentsWords}
-use Rattle.path.specs.BucketList.{BucketList, pairList}
+use Rattle.path.specs.Layout.{Contents, bucketWords, treeWords}
+use Rattle.lists.specs.BucketList.{BucketList, pairList}
 use Rattle.path.proofs.PathLaws.{path-root, path-at}
-use Rattle.path.proofs.ListLaws.{length-path}
+use Rattle.lists.proofs.ListLaws.{length-path}
 use Rattle.mend.specs.Mended.{pathWords}
 use Rattle.mend.proofs.PartLaws.{length-buckets}
-use Rattle.rack.specs.Copy.{stored, AllStand}
-use Rattle.rack.specs.BucketAt.{bucketAt}
-use Rattle.rack.proofs.LayoutLaws.{in-tree}
+use Rattle.copies.specs.Copy.{stored, AllStand}
+use Rattle.copies.specs.BucketAt.{bucketAt}
+use Rattle.copies.proofs.LayoutLaws.{in-tree}
 use Rattle.rack.proofs.ListedLaws.{pair-distinct}
-use Rattle.rack.proofs.RackLaws.{kept, each-stands, contentsAt}
-use Rattle.rack.proofs.StoreLaws.{stored-length}
+use Rattle.copies.proofs.ContentsLaws.{kept, each-stands, contentsAt}
+use Rattle.copies.proofs.StoreLaws.{stored-length}
 use Rattle.tree.specs.Tree.{Tree, InTree, Alike, contents, treeOf}
 use Rattle.tree.specs.Path.{OnPath, OffPath}
 use Rattle.tree.proofs.PathLaws.{same-or, path-or}
@@ -31,11 +31,6 @@ use Rattle.tree.proofs.PathFetch.{levels-list, tree-root, tree-below}
 use Rattle.tree.proofs.PathStore.{part-holds}
 use Rattle.tree.proofs.HalvesLaws.{Halves, first-inside}
 use Rattle.tree.proofs.PairFetch.{at-first, at-second, pair-wholes, pair-whole-count}
-
-pub path-words-append : (xs ys : List Contents) → pathWords (xs ++ ys) ≡ pathWords xs ++ pathWords ys
-unfolding pathWords
-path-words-append [] ys = refl
-path-words-append (x ∷ xs) ys = rw (path-words-append xs ys) (sym (append-assoc (contentsWords x) (pathWords xs) (pathWords ys)))
 
 -- the words behind those of n buckets
 contents-behind : (z n i : ℕ) (xs ys : List ℕ) → length xs ≡ n * bucketWords z → contentsAt z (xs ++ ys) (n + i) ≡ contentsAt z ys i

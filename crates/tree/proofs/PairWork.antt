@@ -13,7 +13,8 @@ use Rattle.path.specs.declared.sizes.Sizes.{Sizes}
 use Rattle.path.specs.Path.{pathBucket}
 use Rattle.path.specs.Layout.{Contents}
 use Rattle.path.proofs.PathLaws.{path-root}
-use Rattle.work.specs.Work.{evicted, slotsAfter, pathBuckets, rootAfter, leastAfter, seated, firstBuckets, secondWay, topFirst, secondBeside, secondBuckets}
+use Rattle.work.specs.PathWork.{evicted, slotsAfter, pathBuckets, rootAfter, leastAfter}
+use Rattle.pair.specs.PairWork.{seated, firstBuckets, secondWay, topFirst, secondBeside, secondBuckets}
 use Rattle.work.proofs.BesideLaws.{kids-same, top-same, mended-same}
 use Rattle.tree.specs.Tree.{Tree, wayOf, slotsOn, besideOf}
 use Rattle.tree.specs.Work.{afterFirst}

@@ -10,15 +10,15 @@ use Rattle.record.specs.declared.Record.{Record}
 use Rattle.path.specs.Sizes.{leavesOf}
 use Rattle.path.specs.Path.{bucket, number, root, pathBucket, siblingOf, upFrom, path}
 use Rattle.path.specs.Layout.{Contents, treeWords}
-use Rattle.path.specs.BucketList.{pathList}
+use Rattle.lists.specs.BucketList.{pathList}
 use Rattle.path.proofs.PathLaws.{path-root, path-in-tree, sibling-in-tree, path-at}
-use Rattle.path.proofs.ListLaws.{length-path, length-siblings}
+use Rattle.lists.proofs.ListLaws.{length-path, length-siblings}
 use Rattle.gather.specs.Shown.{siblingAt, siblingsShown, wayShown}
 use Rattle.gather.proofs.ShownLaws.{siblings-at}
 use Rattle.mend.specs.Mended.{besideAt}
-use Rattle.rack.specs.Copy.{fetched, AllStand}
-use Rattle.rack.specs.BucketAt.{bucketAt}
-use Rattle.rack.proofs.LayoutLaws.{in-tree}
+use Rattle.copies.specs.Copy.{fetched, AllStand}
+use Rattle.copies.specs.BucketAt.{bucketAt}
+use Rattle.copies.proofs.LayoutLaws.{in-tree}
 use Rattle.tree.specs.Tree.{Tree, contents, treeOf, wayOf, besideOf}
 use Rattle.tree.proofs.PathLaws.{put-here, put-other}
 use Rattle.tree.proofs.ShownLaws.{Shows, way-shown}

@@ -14,17 +14,17 @@ use Rattle.record.proofs.WordsLaws.{records-words}
 use Rattle.path.specs.Sizes.{leavesOf}
 use Rattle.path.specs.Path.{bucket, number, root, pathBucket, upFrom, path}
 use Rattle.path.specs.Layout.{Contents, bucketWords, treeWords}
-use Rattle.path.specs.BucketList.{pathList}
+use Rattle.lists.specs.BucketList.{pathList}
 use Rattle.path.proofs.PathLaws.{path-root, path-at}
-use Rattle.path.proofs.ListLaws.{length-path}
+use Rattle.lists.proofs.ListLaws.{length-path}
 use Rattle.mend.specs.Mended.{pathWords}
 use Rattle.mend.proofs.PartLaws.{length-buckets, bucket-part}
-use Rattle.rack.specs.Copy.{stored, AllStand}
-use Rattle.rack.specs.BucketAt.{contentsOf, bucketAt}
-use Rattle.rack.proofs.LayoutLaws.{in-tree}
+use Rattle.copies.specs.Copy.{stored, AllStand}
+use Rattle.copies.specs.BucketAt.{contentsOf, bucketAt}
+use Rattle.copies.proofs.LayoutLaws.{in-tree}
 use Rattle.rack.proofs.ListedLaws.{path-distinct}
-use Rattle.rack.proofs.RackLaws.{kept, each-stands, contentsAt}
-use Rattle.rack.proofs.StoreLaws.{stored-length}
+use Rattle.copies.proofs.ContentsLaws.{kept, each-stands, contentsAt}
+use Rattle.copies.proofs.StoreLaws.{stored-length}
 use Rattle.tree.specs.Tree.{Tree, Alike, contents, laidBack, treeOf}
 use Rattle.tree.specs.Path.{OnPath, OffPath}
 use Rattle.tree.proofs.PathLaws.{same-or, path-or, laid-root, laid-on, laid-off}

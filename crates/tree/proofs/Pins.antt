@@ -14,9 +14,10 @@ use Rattle.path.specs.Sizes.{sizesOf}
 use Rattle.path.specs.Path.{bucket, root, pathBucket, holds, siblingOf, upFrom, path}
 use Rattle.path.specs.Layout.{freshTree}
 use Rattle.way.specs.Evict.{seek, fits, movedTo, pull, pulls, evictUp, evict}
-use Rattle.way.specs.Least.{slotsAt, inOrder, kids}
-use Rattle.gather.specs.Removal.{named, removed}
-use Rattle.work.specs.Work.{pathBuckets, rootAfter, leastAfter, seated}
+use Rattle.least.specs.Least.{slotsAt, inOrder, kids}
+use Rattle.clearing.specs.Removal.{named, removed}
+use Rattle.work.specs.PathWork.{pathBuckets, rootAfter, leastAfter}
+use Rattle.pair.specs.PairWork.{seated}
 use Rattle.tree.specs.Tree.{Tree, joined, put, putAll, treeOf}
 use Rattle.tree.specs.Work.{worked, taken, inserted}
 

@@ -14,19 +14,20 @@ use Rattle.record.specs.declared.Record.{Record}
 use Rattle.path.specs.declared.sizes.Sizes.{Sizes}
 use Rattle.path.specs.Sizes.{leavesOf}
 use Rattle.path.specs.Layout.{treeWords}
-use Rattle.path.specs.BucketList.{pathList}
-use Rattle.path.proofs.ListLaws.{length-path}
-use Rattle.way.specs.Least.{mendedAt}
+use Rattle.lists.specs.BucketList.{pathList}
+use Rattle.lists.proofs.ListLaws.{length-path}
+use Rattle.least.specs.Least.{mendedAt}
 use Rattle.way.proofs.EvictLaws.{length-evict}
-use Rattle.way.proofs.LeastLaws.{length-slots}
-use Rattle.gather.specs.Removal.{removed}
+use Rattle.least.proofs.LeastLaws.{length-slots}
+use Rattle.clearing.specs.Removal.{removed}
 use Rattle.gather.specs.Shown.{siblingsShown, wayShown}
-use Rattle.gather.proofs.RemovalLaws.{removed-length}
+use Rattle.clearing.proofs.RemovalLaws.{removed-length}
 use Rattle.gather.proofs.ShownLaws.{way-length}
 use Rattle.mend.specs.Mended.{pathWords, besideAt}
-use Rattle.work.specs.Work.{evicted, slotsAfter, pathBuckets, rootAfter, leastAfter, removalBuckets, removalRoot, removalLeast, rooted}
+use Rattle.work.specs.PathWork.{evicted, slotsAfter, pathBuckets, rootAfter, leastAfter}
+use Rattle.work.specs.RemovalWork.{removalBuckets, removalRoot, removalLeast, rooted}
 use Rattle.work.proofs.BesideLaws.{kids-same, mended-same}
-use Rattle.rack.specs.Copy.{fetched, stored}
+use Rattle.copies.specs.Copy.{fetched, stored}
 use Rattle.tree.specs.Tree.{Tree, Alike, wayOf, besideOf, treeOf}
 use Rattle.tree.specs.Work.{worked, taken}
 use Rattle.tree.proofs.FetchLaws.{fetched-long}

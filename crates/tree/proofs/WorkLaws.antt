@@ -12,8 +12,8 @@ use Rattle.path.specs.Sizes.{leavesOf}
 use Rattle.path.specs.Path.{pathBucket}
 use Rattle.path.specs.Layout.{Contents}
 use Rattle.path.proofs.PathLaws.{path-root}
-use Rattle.way.specs.Least.{slotsAt, kids}
-use Rattle.work.specs.Work.{evicted, pathBuckets, rootAfter, leastAfter}
+use Rattle.least.specs.Least.{slotsAt, kids}
+use Rattle.work.specs.PathWork.{evicted, pathBuckets, rootAfter, leastAfter}
 use Rattle.tree.specs.Tree.{Tree, besideOf, contents}
 use Rattle.tree.specs.Work.{worked}
 use Rattle.tree.proofs.PathLaws.{Lays, laid-root, laid-on, laid-off}

@@ -11,7 +11,7 @@ use Rattle.record.specs.declared.Record.{Record}
 use Rattle.path.specs.Sizes.{leavesOf}
 use Rattle.path.specs.Path.{number, root, pathBucket, siblingOf, path}
 use Rattle.path.specs.Layout.{Contents}
-use Rattle.rack.specs.BucketAt.{bucketAt}
+use Rattle.copies.specs.BucketAt.{bucketAt}
 
 abbrev pub Tree : Type 0
 Tree = Bucket → Contents

@@ -1,12 +1,13 @@
 -- The work of a finish on a Tree: document 01, "A request, step by step". A way is taken out, worked on by the rules of
--- work/specs/Work.antt, and laid back. Assumes nothing.
+-- work/specs, and laid back. Assumes nothing.
 use mathlib.Core.Bool.{Bool}
 use mathlib.Core.List.{List}
 use Rattle.record.specs.declared.Leaf.{Leaf}
 use Rattle.record.specs.declared.Record.{Record}
 use Rattle.path.specs.declared.sizes.Sizes.{Sizes}
-use Rattle.gather.specs.Removal.{removed}
-use Rattle.work.specs.Work.{pathBuckets, rootAfter, leastAfter, seated}
+use Rattle.clearing.specs.Removal.{removed}
+use Rattle.work.specs.PathWork.{pathBuckets, rootAfter, leastAfter}
+use Rattle.pair.specs.PairWork.{seated}
 use Rattle.tree.specs.Tree.{Tree, wayOf, besideOf, contents, laidBack}
 
 module _ (s : Sizes) (q : Leaf) where

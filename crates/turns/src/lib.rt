@@ -1,28 +1,25 @@
-// What the desk does with a line: document 01, "What the desk sees". A line and a state in; a state, a reply and the tree's words
-// out. Stands on `lines` and `rounds`.
-mod afresh;
-mod asked;
-mod ends;
-mod line;
-mod room;
+// What the desk does with a line, whatever it says: document 01, "What the desk sees". A line and a state in; a state, a reply and the tree's
+// words out. Stands on `lines`, `asked` and `afresh`.
+ghost use Rattle.steps.specs.Step.{Steps};
+use lines::Line;
+use steps::Desk;
+use steps::Turn;
 
-use card::Answer;
-use card::Card;
-pub use line::step;
-
-// The desk between two lines. Until a `size` is accepted `sized` is false, and its card means nothing.
-pub struct Desk {
-    pub sized: bool,
-    pub card: Card,
-}
-
-// What is printed for a line: `?`, or an answer of the card.
-pub enum Reply {
-    Unreadable,
-    Said(Answer),
-}
-
-pub struct Turn {
-    pub desk: Desk,
-    pub reply: Reply,
+pub fn step(desk: Desk, line: Line, tree: &mut [u64]) -> Turn
+    ensures { λ t. ⌜ Steps desk line (now (tree .entry)) (now (tree .exit)) t ⌝ }
+{
+    match line {
+        Line::Unreadable => steps::unread_by(desk),
+        Line::Size { h, z, r, t } => afresh::size(desk, h, z, r, t, tree),
+        Line::Insert {
+            key,
+            value,
+            label,
+            first,
+            second,
+        } => { asked::insert(desk, key, value, label, first, second, tree) }
+        Line::Min => afresh::min(desk),
+        Line::Extract => asked::extract(desk, tree),
+        Line::Delete { label, stamp } => asked::delete(desk, label, stamp, tree),
+    }
 }

@@ -1,5 +1,6 @@
 -- The desk, from a request on both sides to a line of bytes, leaves one outcome: the answer, the desk, every word of the tree
 -- and every byte of the slice that is printed to. Assumes nothing.
+use mathlib.Core.Path.{refl}
 use Rattle.rounds.proofs.RoundLaws.{comes-to}
 use Rattle.unique.specs.One.{Determines}
 use Rattle.unique.proofs.OneLaws.{one-answer}
@@ -9,8 +10,30 @@ use Rattle.rounds.proofs.play_extract.Kinds as play-extract-kinds
 use Rattle.rounds.proofs.play_extract.Reads as play-extract
 use Rattle.rounds.proofs.play_delete.Kinds as play-delete-kinds
 use Rattle.rounds.proofs.play_delete.Reads as play-delete
+use Rattle.steps.proofs.unread_by.Kinds as unread-by-kinds
+use Rattle.steps.proofs.unread_by.Reads as unread-by
+use Rattle.steps.proofs.kept_by.Kinds as kept-by-kinds
+use Rattle.steps.proofs.kept_by.Reads as kept-by
+use Rattle.steps.proofs.told_by.Kinds as told-by-kinds
+use Rattle.steps.proofs.told_by.Reads as told-by
+use Rattle.steps.proofs.tree_words.Kinds as tree-words-kinds
+use Rattle.steps.proofs.tree_words.Reads as tree-words
+use Rattle.steps.proofs.used.Kinds as used-kinds
+use Rattle.steps.proofs.used.Reads as used
+use Rattle.asked.proofs.insert.Kinds as asked-insert-kinds
+use Rattle.asked.proofs.insert.Reads as asked-insert
+use Rattle.asked.proofs.extract.Kinds as asked-extract-kinds
+use Rattle.asked.proofs.extract.Reads as asked-extract
+use Rattle.asked.proofs.delete.Kinds as asked-delete-kinds
+use Rattle.asked.proofs.delete.Reads as asked-delete
+use Rattle.afresh.proofs.size.Kinds as size-kinds
+use Rattle.afresh.proofs.size.Reads as size
+use Rattle.afresh.proofs.min.Kinds as min-kinds
+use Rattle.afresh.proofs.min.Reads as min
 use Rattle.turns.proofs.step.Kinds as step-kinds
 use Rattle.turns.proofs.step.Reads as step
+use Rattle.said.proofs.print_said.Kinds as print-said-kinds
+use Rattle.said.proofs.print_said.Reads as print-said
 use Rattle.replies.proofs.print_reply.Kinds as print-reply-kinds
 use Rattle.replies.proofs.print_reply.Reads as print-reply
 use Rattle.replies.proofs.answer_line.Kinds as answer-line-kinds
@@ -31,10 +54,65 @@ one-play-delete =
     one-answer 1 play-delete-kinds.ps play-delete-kinds.r play-delete.Asked play-delete.Learnt _ _
     (λ κs a ok x xs f p. (comes-to _ _ _ _ _ p .0, λ i. (tt, (tt, (tt, (comes-to _ _ _ _ _ p .1 i, tt))))))
 
+pub one-unread-by : Determines 0 unread-by-kinds.ps unread-by-kinds.r unread-by.Asked unread-by.Learnt
+one-unread-by =
+    one-answer 0 unread-by-kinds.ps unread-by-kinds.r unread-by.Asked unread-by.Learnt _ _
+    (λ κs a ok x xs f p. (p, refl))
+
+pub one-kept-by : Determines 0 kept-by-kinds.ps kept-by-kinds.r kept-by.Asked kept-by.Learnt
+one-kept-by =
+    one-answer 0 kept-by-kinds.ps kept-by-kinds.r kept-by.Asked kept-by.Learnt _ _
+    (λ κs a ok x xs f p. (p, refl))
+
+pub one-told-by : Determines 0 told-by-kinds.ps told-by-kinds.r told-by.Asked told-by.Learnt
+one-told-by =
+    one-answer 0 told-by-kinds.ps told-by-kinds.r told-by.Asked told-by.Learnt _ _
+    (λ κs a ok x xs f p. (p, refl))
+
+pub one-tree-words : Determines 0 tree-words-kinds.ps tree-words-kinds.r tree-words.Asked tree-words.Learnt
+one-tree-words =
+    one-answer 0 tree-words-kinds.ps tree-words-kinds.r tree-words.Asked tree-words.Learnt _ _
+    (λ κs a ok x xs f p. (p, refl))
+
+pub one-used : Determines 0 used-kinds.ps used-kinds.r used.Asked used.Learnt
+one-used =
+    one-answer 0 used-kinds.ps used-kinds.r used.Asked used.Learnt _ _
+    (λ κs a ok x xs f p. (p, refl))
+
+pub one-asked-insert : Determines 1 asked-insert-kinds.ps asked-insert-kinds.r asked-insert.Asked asked-insert.Learnt
+one-asked-insert =
+    one-answer 1 asked-insert-kinds.ps asked-insert-kinds.r asked-insert.Asked asked-insert.Learnt _ _
+    (λ κs a ok x xs f p. (p .said, λ i. (tt, (tt, (tt, (tt, (tt, (tt, (p .lent i, tt)))))))))
+
+pub one-asked-extract : Determines 1 asked-extract-kinds.ps asked-extract-kinds.r asked-extract.Asked asked-extract.Learnt
+one-asked-extract =
+    one-answer 1 asked-extract-kinds.ps asked-extract-kinds.r asked-extract.Asked asked-extract.Learnt _ _
+    (λ κs a ok x xs f p. (p .said, λ i. (tt, (p .lent i, tt))))
+
+pub one-asked-delete : Determines 1 asked-delete-kinds.ps asked-delete-kinds.r asked-delete.Asked asked-delete.Learnt
+one-asked-delete =
+    one-answer 1 asked-delete-kinds.ps asked-delete-kinds.r asked-delete.Asked asked-delete.Learnt _ _
+    (λ κs a ok x xs f p. (p .said, λ i. (tt, (tt, (tt, (p .lent i, tt))))))
+
+pub one-size : Determines 1 size-kinds.ps size-kinds.r size.Asked size.Learnt
+one-size =
+    one-answer 1 size-kinds.ps size-kinds.r size.Asked size.Learnt _ _
+    (λ κs a ok x xs f p. (p .said, λ i. (tt, (tt, (tt, (tt, (tt, (p .lent i, tt))))))))
+
+pub one-min : Determines 0 min-kinds.ps min-kinds.r min.Asked min.Learnt
+one-min =
+    one-answer 0 min-kinds.ps min-kinds.r min.Asked min.Learnt _ _
+    (λ κs a ok x xs f p. (p, refl))
+
 pub one-step : Determines 1 step-kinds.ps step-kinds.r step.Asked step.Learnt
 one-step =
     one-answer 1 step-kinds.ps step-kinds.r step.Asked step.Learnt _ _
     (λ κs a ok x xs f p. (p .said, λ i. (tt, (tt, (p .lent i, tt)))))
+
+pub one-print-said : Determines 1 print-said-kinds.ps print-said-kinds.r print-said.Asked print-said.Learnt
+one-print-said =
+    one-answer 1 print-said-kinds.ps print-said-kinds.r print-said.Asked print-said.Learnt _ _
+    (λ κs a ok x xs f p. (p .counted, λ i. (tt, (p .lent i, tt))))
 
 pub one-print-reply : Determines 1 print-reply-kinds.ps print-reply-kinds.r print-reply.Asked print-reply.Learnt
 one-print-reply =

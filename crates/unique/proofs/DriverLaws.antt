@@ -27,6 +27,16 @@ use Rattle.told.proofs.settle.Kinds as settle-kinds
 use Rattle.told.proofs.settle.Reads as settle
 use Rattle.told.proofs.tell.Kinds as tell-kinds
 use Rattle.told.proofs.tell.Reads as tell
+use Rattle.values.proofs.number_of.Kinds as number-of-kinds
+use Rattle.values.proofs.number_of.Reads as number-of
+use Rattle.values.proofs.values_of.Kinds as values-of-kinds
+use Rattle.values.proofs.values_of.Reads as values-of
+use Rattle.held.proofs.card_of.Kinds as card-of-kinds
+use Rattle.held.proofs.card_of.Reads as card-of
+use Rattle.kinds.proofs.waiting_of.Kinds as waiting-of-kinds
+use Rattle.kinds.proofs.waiting_of.Reads as waiting-of
+use Rattle.kinds.proofs.request_words.Kinds as request-words-kinds
+use Rattle.kinds.proofs.request_words.Reads as request-words
 use Rattle.image.proofs.is_odd.Kinds as is-odd-kinds
 use Rattle.image.proofs.is_odd.Reads as is-odd
 use Rattle.image.proofs.read.Kinds as read-kinds
@@ -93,6 +103,31 @@ pub one-tell : Determines 1 tell-kinds.ps tell-kinds.r tell.Asked tell.Learnt
 one-tell =
     one-answer 1 tell-kinds.ps tell-kinds.r tell.Asked tell.Learnt _ _
     (λ κs a ok x xs f p. (p .number, λ i. (tt, (p .answer i, tt))))
+
+pub one-number-of : Determines 0 number-of-kinds.ps number-of-kinds.r number-of.Asked number-of.Learnt
+one-number-of =
+    one-answer 0 number-of-kinds.ps number-of-kinds.r number-of.Asked number-of.Learnt _ _
+    (λ κs a ok x xs f p. (p, refl))
+
+pub one-values-of : Determines 0 values-of-kinds.ps values-of-kinds.r values-of.Asked values-of.Learnt
+one-values-of =
+    one-answer 0 values-of-kinds.ps values-of-kinds.r values-of.Asked values-of.Learnt _ _
+    (λ κs a ok x xs f p. (p, refl))
+
+pub one-waiting-of : Determines 0 waiting-of-kinds.ps waiting-of-kinds.r waiting-of.Asked waiting-of.Learnt
+one-waiting-of =
+    one-answer 0 waiting-of-kinds.ps waiting-of-kinds.r waiting-of.Asked waiting-of.Learnt _ _
+    (λ κs a ok x xs f p. (p, refl))
+
+pub one-request-words : Determines 0 request-words-kinds.ps request-words-kinds.r request-words.Asked request-words.Learnt
+one-request-words =
+    one-answer 0 request-words-kinds.ps request-words-kinds.r request-words.Asked request-words.Learnt _ _
+    (λ κs a ok x xs f p. (p, refl))
+
+pub one-card-of : Determines 1 card-of-kinds.ps card-of-kinds.r card-of.Asked card-of.Learnt
+one-card-of =
+    one-answer 1 card-of-kinds.ps card-of-kinds.r card-of.Asked card-of.Learnt _ _
+    (λ κs a ok x xs f p. (p, refl))
 
 pub one-is-odd : Determines 1 is-odd-kinds.ps is-odd-kinds.r is-odd.Asked is-odd.Learnt
 one-is-odd =

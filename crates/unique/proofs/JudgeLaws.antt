@@ -1,8 +1,9 @@
 -- The judgements on a request, a card and what was fetched, and a finish on the parts of a card, leave one outcome.
 -- Assumes nothing.
-use mathlib.Core.Path.{refl}
+use mathlib.Core.Path.{refl, _∙_}
 use Rattle.unique.specs.One.{Determines}
 use Rattle.unique.proofs.OneLaws.{one-answer}
+use Rattle.unique.proofs.ScratchLaws.{full-words}
 use Rattle.request.proofs.is_waiting.Kinds as is-waiting-kinds
 use Rattle.request.proofs.is_waiting.Reads as is-waiting
 use Rattle.request.proofs.why_request.Kinds as why-request-kinds
@@ -19,6 +20,16 @@ use Rattle.root.proofs.all_real.Kinds as all-real-kinds
 use Rattle.root.proofs.all_real.Reads as all-real
 use Rattle.judge.proofs.are_parts_bad.Kinds as are-parts-bad-kinds
 use Rattle.judge.proofs.are_parts_bad.Reads as are-parts-bad
+use Rattle.sound.proofs.all_sound.Kinds as all-sound-kinds
+use Rattle.sound.proofs.all_sound.Reads as all-sound
+use Rattle.truth.proofs.leasts_true.Kinds as leasts-true-kinds
+use Rattle.truth.proofs.leasts_true.Reads as leasts-true
+use Rattle.checks.proofs.why_busy.Kinds as why-busy-kinds
+use Rattle.checks.proofs.why_busy.Reads as why-busy
+use Rattle.checks.proofs.why_idle.Kinds as why-idle-kinds
+use Rattle.checks.proofs.why_idle.Reads as why-idle
+use Rattle.checks.proofs.why_begin.Kinds as why-begin-kinds
+use Rattle.checks.proofs.why_begin.Reads as why-begin
 use Rattle.damage.proofs.path_damaged.Kinds as path-damaged-kinds
 use Rattle.damage.proofs.path_damaged.Reads as path-damaged
 use Rattle.damage.proofs.pair_damaged.Kinds as pair-damaged-kinds
@@ -29,12 +40,20 @@ use Rattle.settle.proofs.path_words.Kinds as path-words-kinds
 use Rattle.settle.proofs.path_words.Reads as path-words
 use Rattle.settle.proofs.unsettled.Kinds as unsettled-kinds
 use Rattle.settle.proofs.unsettled.Reads as unsettled
-use Rattle.settle.proofs.comes_out_bad.Kinds as comes-out-bad-kinds
-use Rattle.settle.proofs.comes_out_bad.Reads as comes-out-bad
+use Rattle.settle.proofs.judged.Kinds as judged-kinds
+use Rattle.settle.proofs.judged.Reads as judged
+use Rattle.look.proofs.look_path.Kinds as look-path-kinds
+use Rattle.look.proofs.look_path.Reads as look-path
+use Rattle.look.proofs.look_pair.Kinds as look-pair-kinds
+use Rattle.look.proofs.look_pair.Reads as look-pair
+use Rattle.prepare.proofs.prepare_insertion.Kinds as prepare-insertion-kinds
+use Rattle.prepare.proofs.prepare_insertion.Reads as prepare-insertion
 use Rattle.removal.proofs.settle_removal.Kinds as settle-removal-kinds
 use Rattle.removal.proofs.settle_removal.Reads as settle-removal
 use Rattle.insertion.proofs.settle_insertion.Kinds as settle-insertion-kinds
 use Rattle.insertion.proofs.settle_insertion.Reads as settle-insertion
+use Rattle.finishes.proofs.settle_request.Kinds as settle-request-kinds
+use Rattle.finishes.proofs.settle_request.Reads as settle-request
 
 pub one-is-waiting : Determines 0 is-waiting-kinds.ps is-waiting-kinds.r is-waiting.Asked is-waiting.Learnt
 one-is-waiting =
@@ -76,6 +95,31 @@ one-are-parts-bad =
     one-answer 1 are-parts-bad-kinds.ps are-parts-bad-kinds.r are-parts-bad.Asked are-parts-bad.Learnt _ _
     (λ κs a ok x xs f p. (p, refl))
 
+pub one-all-sound : Determines 2 all-sound-kinds.ps all-sound-kinds.r all-sound.Asked all-sound.Learnt
+one-all-sound =
+    one-answer 2 all-sound-kinds.ps all-sound-kinds.r all-sound.Asked all-sound.Learnt _ _
+    (λ κs a ok x xs f p. (p, refl))
+
+pub one-leasts-true : Determines 2 leasts-true-kinds.ps leasts-true-kinds.r leasts-true.Asked leasts-true.Learnt
+one-leasts-true =
+    one-answer 2 leasts-true-kinds.ps leasts-true-kinds.r leasts-true.Asked leasts-true.Learnt _ _
+    (λ κs a ok x xs f p. (p, refl))
+
+pub one-why-busy : Determines 0 why-busy-kinds.ps why-busy-kinds.r why-busy.Asked why-busy.Learnt
+one-why-busy =
+    one-answer 0 why-busy-kinds.ps why-busy-kinds.r why-busy.Asked why-busy.Learnt _ _
+    (λ κs a ok x xs f p. (p, refl))
+
+pub one-why-idle : Determines 0 why-idle-kinds.ps why-idle-kinds.r why-idle.Asked why-idle.Learnt
+one-why-idle =
+    one-answer 0 why-idle-kinds.ps why-idle-kinds.r why-idle.Asked why-idle.Learnt _ _
+    (λ κs a ok x xs f p. (p, refl))
+
+pub one-why-begin : Determines 0 why-begin-kinds.ps why-begin-kinds.r why-begin.Asked why-begin.Learnt
+one-why-begin =
+    one-answer 0 why-begin-kinds.ps why-begin-kinds.r why-begin.Asked why-begin.Learnt _ _
+    (λ κs a ok x xs f p. (p, refl))
+
 pub one-path-damaged : Determines 3 path-damaged-kinds.ps path-damaged-kinds.r path-damaged.Asked path-damaged.Learnt
 one-path-damaged =
     one-answer 3 path-damaged-kinds.ps path-damaged-kinds.r path-damaged.Asked path-damaged.Learnt _ _
@@ -101,10 +145,25 @@ one-unsettled =
     one-answer 0 unsettled-kinds.ps unsettled-kinds.r unsettled.Asked unsettled.Learnt _ _
     (λ κs a ok x xs f p. (p, refl))
 
-pub one-comes-out-bad : Determines 0 comes-out-bad-kinds.ps comes-out-bad-kinds.r comes-out-bad.Asked comes-out-bad.Learnt
-one-comes-out-bad =
-    one-answer 0 comes-out-bad-kinds.ps comes-out-bad-kinds.r comes-out-bad.Asked comes-out-bad.Learnt _ _
+pub one-judged : Determines 0 judged-kinds.ps judged-kinds.r judged.Asked judged.Learnt
+one-judged =
+    one-answer 0 judged-kinds.ps judged-kinds.r judged.Asked judged.Learnt _ _
     (λ κs a ok x xs f p. (p, refl))
+
+pub one-look-path : Determines 3 look-path-kinds.ps look-path-kinds.r look-path.Asked look-path.Learnt
+one-look-path =
+    one-answer 3 look-path-kinds.ps look-path-kinds.r look-path.Asked look-path.Learnt _ _
+    (λ κs a ok x xs f p. (λ i. record { moved = p .shown .counted i; damaged = p .verdict i }, λ i. (tt, (full-words _ _ _ (f .1 .0 ∙ ok .slots) (p .shown .way) i, (full-words _ _ _ (f .1 .1 .0 ∙ ok .siblings) (p .shown .siblings) i, (tt, (tt, (tt, (tt, (tt, tt))))))))))
+
+pub one-look-pair : Determines 3 look-pair-kinds.ps look-pair-kinds.r look-pair.Asked look-pair.Learnt
+one-look-pair =
+    one-answer 3 look-pair-kinds.ps look-pair-kinds.r look-pair.Asked look-pair.Learnt _ _
+    (λ κs a ok x xs f p. (λ i. record { moved = p .counted i; damaged = p .verdict i }, λ i. (tt, (full-words _ _ _ (f .1 .0 ∙ ok .slots) (p .way) i, (full-words _ _ _ (f .1 .1 .0 ∙ ok .siblings) (p .siblings) i, (tt, (tt, (tt, (tt, (tt, (tt, tt)))))))))))
+
+pub one-prepare-insertion : Determines 3 prepare-insertion-kinds.ps prepare-insertion-kinds.r prepare-insertion.Asked prepare-insertion.Learnt
+one-prepare-insertion =
+    one-answer 3 prepare-insertion-kinds.ps prepare-insertion-kinds.r prepare-insertion.Asked prepare-insertion.Learnt _ _
+    (λ κs a ok x xs f p. (p .whole, λ i. (tt, (p .lower i, (p .upper i, (tt, (tt, (tt, (tt, (tt, (tt, (tt, (tt, tt)))))))))))))
 
 pub one-settle-removal : Determines 1 settle-removal-kinds.ps settle-removal-kinds.r settle-removal.Asked settle-removal.Learnt
 one-settle-removal =
@@ -115,3 +174,8 @@ pub one-settle-insertion : Determines 1 settle-insertion-kinds.ps settle-inserti
 one-settle-insertion =
     one-answer 1 settle-insertion-kinds.ps settle-insertion-kinds.r settle-insertion.Asked settle-insertion.Learnt _ _
     (λ κs a ok x xs f p. (p .whole, λ i. (p .words i, (tt, (tt, (tt, (tt, (tt, (tt, (tt, (tt, tt)))))))))))
+
+pub one-settle-request : Determines 1 settle-request-kinds.ps settle-request-kinds.r settle-request.Asked settle-request.Learnt
+one-settle-request =
+    one-answer 1 settle-request-kinds.ps settle-request-kinds.r settle-request.Asked settle-request.Learnt _ _
+    (λ κs a ok x xs f p. (p .whole, λ i. (p .words i, (tt, (tt, (tt, (tt, (tt, (tt, tt)))))))))

@@ -13,8 +13,12 @@ use Rattle.decimal.proofs.width.Kinds as width-kinds
 use Rattle.decimal.proofs.width.Reads as width
 use Rattle.decimal.proofs.print.Kinds as print-kinds
 use Rattle.decimal.proofs.print.Reads as print
-use Rattle.lines.proofs.end_of.Kinds as end-of-kinds
-use Rattle.lines.proofs.end_of.Reads as end-of
+use Rattle.fields.proofs.end_of.Kinds as end-of-kinds
+use Rattle.fields.proofs.end_of.Reads as end-of
+use Rattle.fields.proofs.same.Kinds as same-kinds
+use Rattle.fields.proofs.same.Reads as same
+use Rattle.fields.proofs.numbers.Kinds as numbers-kinds
+use Rattle.fields.proofs.numbers.Reads as numbers
 use Rattle.lines.proofs.read_line.Kinds as read-line-kinds
 use Rattle.lines.proofs.read_line.Reads as read-line
 use Rattle.frames.proofs.print_answer.Kinds as print-answer-kinds
@@ -50,6 +54,16 @@ pub one-end-of : Determines 1 end-of-kinds.ps end-of-kinds.r end-of.Asked end-of
 one-end-of =
     one-answer 1 end-of-kinds.ps end-of-kinds.r end-of.Asked end-of.Learnt _ _
     (λ κs a ok x xs f p. (p, refl))
+
+pub one-same : Determines 2 same-kinds.ps same-kinds.r same.Asked same.Learnt
+one-same =
+    one-answer 2 same-kinds.ps same-kinds.r same.Asked same.Learnt _ _
+    (λ κs a ok x xs f p. (p, refl))
+
+pub one-numbers : Determines 2 numbers-kinds.ps numbers-kinds.r numbers.Asked numbers.Learnt
+one-numbers =
+    one-answer 2 numbers-kinds.ps numbers-kinds.r numbers.Asked numbers.Learnt _ _
+    (λ κs a ok x xs f p. (p .told, λ i. (tt, (tt, (p .these i, tt)))))
 
 pub one-read-line : Determines 1 read-line-kinds.ps read-line-kinds.r read-line.Asked read-line.Learnt
 one-read-line =

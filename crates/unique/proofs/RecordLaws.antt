@@ -34,16 +34,16 @@ use Rattle.path.proofs.sizes.Sizes.bucket_at.Kinds as bucket-at-kinds
 use Rattle.path.proofs.sizes.Sizes.bucket_at.Reads as bucket-at
 use Rattle.path.proofs.sizes.Sizes.holds.Kinds as holds-kinds
 use Rattle.path.proofs.sizes.Sizes.holds.Reads as holds
-use Rattle.path.proofs.sizes.Sizes.pair_counts.Kinds as pair-counts-kinds
-use Rattle.path.proofs.sizes.Sizes.pair_counts.Reads as pair-counts
-use Rattle.path.proofs.sizes.Sizes.path_counts.Kinds as path-counts-kinds
-use Rattle.path.proofs.sizes.Sizes.path_counts.Reads as path-counts
-use Rattle.path.proofs.sizes.Sizes.list_pair.Kinds as list-pair-kinds
-use Rattle.path.proofs.sizes.Sizes.list_pair.Reads as list-pair
-use Rattle.path.proofs.sizes.Sizes.list_path.Kinds as list-path-kinds
-use Rattle.path.proofs.sizes.Sizes.list_path.Reads as list-path
-use Rattle.path.proofs.list.Listed.words_moved.Kinds as words-moved-kinds
-use Rattle.path.proofs.list.Listed.words_moved.Reads as words-moved
+use Rattle.lists.proofs.pair_counts.Kinds as pair-counts-kinds
+use Rattle.lists.proofs.pair_counts.Reads as pair-counts
+use Rattle.lists.proofs.path_counts.Kinds as path-counts-kinds
+use Rattle.lists.proofs.path_counts.Reads as path-counts
+use Rattle.lists.proofs.list_pair.Kinds as list-pair-kinds
+use Rattle.lists.proofs.list_pair.Reads as list-pair
+use Rattle.lists.proofs.list_path.Kinds as list-path-kinds
+use Rattle.lists.proofs.list_path.Reads as list-path
+use Rattle.lists.proofs.Listed.words_moved.Kinds as words-moved-kinds
+use Rattle.lists.proofs.Listed.words_moved.Reads as words-moved
 
 pub one-is-known : Determines 0 is-known-kinds.ps is-known-kinds.r is-known.Asked is-known.Learnt
 one-is-known =

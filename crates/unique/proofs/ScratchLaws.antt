@@ -11,12 +11,12 @@ use Rattle.unique.specs.One.{Determines}
 use Rattle.unique.proofs.OneLaws.{one-answer}
 use Rattle.way.proofs.evict.Kinds as evict-kinds
 use Rattle.way.proofs.evict.Reads as evict
-use Rattle.way.proofs.least_over.Kinds as least-over-kinds
-use Rattle.way.proofs.least_over.Reads as least-over
-use Rattle.way.proofs.kids_least.Kinds as kids-least-kinds
-use Rattle.way.proofs.kids_least.Reads as kids-least
-use Rattle.way.proofs.stamp_twice.Kinds as stamp-twice-kinds
-use Rattle.way.proofs.stamp_twice.Reads as stamp-twice
+use Rattle.least.proofs.least_over.Kinds as least-over-kinds
+use Rattle.least.proofs.least_over.Reads as least-over
+use Rattle.least.proofs.kids_least.Kinds as kids-least-kinds
+use Rattle.least.proofs.kids_least.Reads as kids-least
+use Rattle.stamps.proofs.stamp_twice.Kinds as stamp-twice-kinds
+use Rattle.stamps.proofs.stamp_twice.Reads as stamp-twice
 use Rattle.gather.proofs.copy.Kinds as copy-kinds
 use Rattle.gather.proofs.copy.Reads as copy
 use Rattle.gather.proofs.load_root.Kinds as load-root-kinds
@@ -29,22 +29,24 @@ use Rattle.gather.proofs.load_path.Kinds as load-path-kinds
 use Rattle.gather.proofs.load_path.Reads as load-path
 use Rattle.gather.proofs.load_siblings.Kinds as load-siblings-kinds
 use Rattle.gather.proofs.load_siblings.Reads as load-siblings
-use Rattle.gather.proofs.find.Kinds as find-kinds
-use Rattle.gather.proofs.find.Reads as find
-use Rattle.gather.proofs.clear.Kinds as clear-kinds
-use Rattle.gather.proofs.clear.Reads as clear
+use Rattle.clearing.proofs.find.Kinds as find-kinds
+use Rattle.clearing.proofs.find.Reads as find
+use Rattle.clearing.proofs.clear.Kinds as clear-kinds
+use Rattle.clearing.proofs.clear.Reads as clear
 use Rattle.mend.proofs.mend_path.Kinds as mend-path-kinds
 use Rattle.mend.proofs.mend_path.Reads as mend-path
-use Rattle.mend.proofs.write_path.Kinds as write-path-kinds
-use Rattle.mend.proofs.write_path.Reads as write-path
+use Rattle.writing.proofs.write_part.Kinds as write-part-kinds
+use Rattle.writing.proofs.write_part.Reads as write-part
+use Rattle.writing.proofs.write_path.Kinds as write-path-kinds
+use Rattle.writing.proofs.write_path.Reads as write-path
 use Rattle.work.proofs.work_path.Kinds as work-path-kinds
 use Rattle.work.proofs.work_path.Reads as work-path
-use Rattle.work.proofs.show_path.Kinds as show-path-kinds
-use Rattle.work.proofs.show_path.Reads as show-path
-use Rattle.work.proofs.show_pair.Kinds as show-pair-kinds
-use Rattle.work.proofs.show_pair.Reads as show-pair
+use Rattle.shown.proofs.show_path.Kinds as show-path-kinds
+use Rattle.shown.proofs.show_path.Reads as show-path
+use Rattle.shown.proofs.show_pair.Kinds as show-pair-kinds
+use Rattle.shown.proofs.show_pair.Reads as show-pair
 
-full-words : (ws : List ℕ) (n : ℕ) (rs : List Record) → length ws ≡ 4 * n → records ws ≡ rs → ws ≡ wordsOf rs
+pub full-words : (ws : List ℕ) (n : ℕ) (rs : List Record) → length ws ≡ 4 * n → records ws ≡ rs → ws ≡ wordsOf rs
 full-words ws n rs long e = sym (words-records ws n long) ∙ ap wordsOf e
 
 pub one-evict : Determines 1 evict-kinds.ps evict-kinds.r evict.Asked evict.Learnt
@@ -111,6 +113,11 @@ pub one-mend-path : Determines 3 mend-path-kinds.ps mend-path-kinds.r mend-path.
 one-mend-path =
     one-answer 3 mend-path-kinds.ps mend-path-kinds.r mend-path.Asked mend-path.Learnt _ _
     (λ κs a ok x xs f p. (p .children, λ i. (p .words i, (tt, (tt, (tt, (tt, tt)))))))
+
+pub one-write-part : Determines 2 write-part-kinds.ps write-part-kinds.r write-part.Asked write-part.Learnt
+one-write-part =
+    one-answer 2 write-part-kinds.ps write-part-kinds.r write-part.Asked write-part.Learnt _ _
+    (λ κs a ok x xs f p. (refl, λ i. (p i, (tt, tt))))
 
 pub one-write-path : Determines 2 write-path-kinds.ps write-path-kinds.r write-path.Asked write-path.Learnt
 one-write-path =

@@ -5,12 +5,17 @@ use mathlib.Core.List.{List, _++_}
 use mathlib.Core.Path.{_≡_, refl, _∙_, ap}
 use lib.ListN.{length, take, drop}
 use Rattle.frames.specs.Framing.{begunBy}
+use Rattle.output.specs.Output.{repliesTo, behindAll}
+use Rattle.output.specs.Room.{takenOf}
 use Rattle.sitting.specs.declared.Sitting.{Sitting}
 use Rattle.sitting.specs.declared.Fed.{Fed}
-use Rattle.sitting.specs.Output.{repliesTo, behindAll}
-use Rattle.sitting.specs.Sitting.{takenOf, stateOf, openLine, heardIn, sittingOf, Feeds}
+use Rattle.sitting.specs.Sitting.{stateOf, openLine, heardIn, sittingOf, Feeds}
 use Rattle.unique.specs.One.{Determines}
 use Rattle.unique.proofs.OneLaws.{one-answer}
+use Rattle.output.proofs.goes_on.Kinds as goes-on-kinds
+use Rattle.output.proofs.goes_on.Reads as goes-on
+use Rattle.output.proofs.clear.Kinds as clear-kinds
+use Rattle.output.proofs.clear.Reads as clear
 use Rattle.sitting.proofs.open.Kinds as opening-kinds
 use Rattle.sitting.proofs.open.Reads as opening
 use Rattle.sitting.proofs.feed.Kinds as feed-kinds
@@ -47,6 +52,16 @@ module _ (s : Sitting) (tree chunk out : List ℕ) where
     fed-bytes : printed ≡ printedAt all (fedAt all .written)
     fed-bytes =
         p .bytes ∙ ap (printedAt (r .taken)) (p .written) ∙ ap (λ (n : ℕ). printedAt n (fedAt n .written)) (p .taken)
+
+pub one-goes-on : Determines 0 goes-on-kinds.ps goes-on-kinds.r goes-on.Asked goes-on.Learnt
+one-goes-on =
+    one-answer 0 goes-on-kinds.ps goes-on-kinds.r goes-on.Asked goes-on.Learnt _ _
+    (λ κs a ok x xs f p. (p, refl))
+
+pub one-clear : Determines 1 clear-kinds.ps clear-kinds.r clear.Asked clear.Learnt
+one-clear =
+    one-answer 1 clear-kinds.ps clear-kinds.r clear.Asked clear.Learnt _ _
+    (λ κs a ok x xs f p. (refl, λ i. (p i, (tt, tt))))
 
 pub one-opening : Determines 0 opening-kinds.ps opening-kinds.r opening.Asked opening.Learnt
 one-opening =

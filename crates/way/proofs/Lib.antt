@@ -1,7 +1,5 @@
 -- The laws of a way that crates above cite.
 pub mod WayLaws
 pub mod EvictLaws
-pub mod LeastLaws
-pub mod StampLaws
 pub mod KeptLaws
 pub mod Pins

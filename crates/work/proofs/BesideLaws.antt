@@ -3,17 +3,14 @@ use Prim.Native.Nat.{ℕ, zero, suc, _+_, _-_, _≤_, _<_}
 use mathlib.Core.List.{List, map}
 use mathlib.Core.Path.{_≡_, refl, ap, _∙_}
 use native.Mathlib.Omega.{arith}
-use mathlib.Core.Bool.{cond}
-use lib.Dec.{eqb}
 use Rattle.record.specs.declared.Leaf.{Leaf}
 use Rattle.record.specs.declared.Record.{Record}
 use Rattle.record.specs.Order.{leastOf}
 use Rattle.path.specs.declared.sizes.Sizes.{Sizes}
 use Rattle.path.specs.Path.{upFrom}
 use Rattle.path.specs.Layout.{Contents}
-use Rattle.way.specs.Least.{kids, mendedAt, mended}
-use Rattle.mend.specs.Mended.{pathWords}
-use Rattle.work.specs.Work.{slotsAfter, pathBuckets, rootAfter, leastAfter, PathWorked, firstWay, secondWay, PairWorked}
+use Rattle.least.specs.Least.{kids, mendedAt, mended}
+use Rattle.work.specs.PathWork.{slotsAfter, pathBuckets, leastAfter, PathWorked}
 
 -- buckets that are the same at some levels
 map-same : (f g : ℕ → Contents) (a n : ℕ) → ((d : ℕ) → a ≤ d → d < a + n → f d ≡ g d) → map f (upFrom a n) ≡ map g (upFrom a n)
@@ -50,22 +47,4 @@ worked-same s q b b′ way w path x same p =
       after = p .after;
       buckets = p .buckets ∙ rw (mended-same (s .h) q (slotsAfter s q b way) b b′ 1 same (omega arith));
       least = p .least ∙ rw (kids-same (s .h) q (slotsAfter s q b way) b b′ 1 same (s .h) (omega arith));
-    }
-
--- An Insert's first path: its sibling at level 1 is the second path, and is not looked at.
-pub pair-same :
-    (s : Sizes) (first second : Leaf) (new : Record) (b b′ beside₂ : ℕ → Record) (way slots₂ : List Record) (w path₁ path₂ : List ℕ) (x : Record)
-    → 1 ≤ s .h → ((d : ℕ) → 2 ≤ d → d ≤ s .h → b d ≡ b′ d)
-    → PairWorked s first second new b beside₂ way slots₂ w path₁ path₂ x
-    → PairWorked s first second new b′ beside₂ way slots₂ w path₁ path₂ x
-unfolding pathBuckets rootAfter leastAfter
-pair-same s first second new b b′ beside₂ way slots₂ w path₁ path₂ x high same p =
-    let slots = slotsAfter s first b (firstWay s first second new b beside₂ way slots₂) in
-    let way₂ = secondWay s first second new b beside₂ way slots₂ in
-    let top = top-same (s .h) first slots b b′ 2 same (omega arith) high in
-    record {
-      after = p .after;
-      firstWords = p .firstWords ∙ ap pathWords (mended-same (s .h) first slots b b′ 2 same (omega arith));
-      secondWords = p .secondWords ∙ ap (λ (t : Record). pathWords (pathBuckets s second (λ d. cond (eqb d 1) t (beside₂ d)) way₂)) top;
-      least = p .least ∙ ap (λ (t : Record). leastAfter s second (λ d. cond (eqb d 1) t (beside₂ d)) way₂) top;
     }

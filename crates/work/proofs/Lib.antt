@@ -1,5 +1,3 @@
 -- The laws of the work that crates above cite.
 pub mod WorkLaws
 pub mod BesideLaws
-pub mod PairLaws
-pub mod ShownLaws

@@ -9,13 +9,14 @@ use Rattle.record.specs.declared.Record.{Record}
 use Rattle.record.specs.Words.{records}
 use Rattle.path.specs.declared.sizes.Sizes.{Sizes}
 use Rattle.way.specs.Evict.{evict}
-use Rattle.way.specs.Least.{over}
-use Rattle.way.proofs.LeastLaws.{smallest-over}
+use Rattle.least.specs.Least.{over}
+use Rattle.least.proofs.LeastLaws.{smallest-over}
 use Rattle.mend.specs.Mended.{besideAt, Mended}
-use Rattle.gather.specs.Removal.{Cleared}
-use Rattle.gather.proofs.RemovalLaws.{cleared-records}
+use Rattle.clearing.specs.Removal.{Cleared}
+use Rattle.clearing.proofs.RemovalLaws.{cleared-records}
 use Rattle.work.specs.declared.removal.Removed.{Removed}
-use Rattle.work.specs.Work.{pathBuckets, rootAfter, leastAfter, PathWorked, PathRemoved}
+use Rattle.work.specs.PathWork.{pathBuckets, rootAfter, leastAfter, PathWorked}
+use Rattle.work.specs.RemovalWork.{PathRemoved}
 
 pub path-worked :
     (s : Sizes) (q : Leaf) (B way : List Record) (w path : List ℕ) (kids x : Record)

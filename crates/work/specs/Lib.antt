@@ -1,2 +1,3 @@
 -- The work of a finish, worked out and not yet written.
-pub mod Work
+pub mod PathWork
+pub mod RemovalWork

@@ -1,22 +1,15 @@
 // The work of a finish on scratches: document 01, "It works, then each bucket's part of the fetched words is written where
 // it stands". Nothing is written here but scratches, so that all is known before the first word changes.
-// Stands on `record`, `path`, `way`, `gather`, `mend`.
-mod pair;
+// Stands on `record`, `path`, `way`, `least`, `gather`, `clearing`, `mend`.
 mod removal;
-mod seating;
-mod shown;
 
-pub use pair::work_pair;
 pub use removal::Removed;
 pub use removal::remove_path;
-pub use seating::seat;
-pub use shown::show_pair;
-pub use shown::show_path;
 ghost use Prim.Native.Nat.{_≤_};
 ghost use mathlib.Core.Path.{_≡_};
 ghost use Rattle.record.specs.Words.{records};
 ghost use Rattle.mend.specs.Mended.{MendRoom, besideAt};
-ghost use Rattle.work.specs.Work.{PathWorked};
+ghost use Rattle.work.specs.PathWork.{PathWorked};
 use path::Sizes;
 use record::Leaf;
 use record::Record;
@@ -36,5 +29,5 @@ pub fn work_path(
     way::evict(w, sizes, leaf);
     let kids = mend::mend_path(path, w, beside, sizes, leaf);
     let r = sizes.r as usize;
-    way::least_over(w, 0, r, kids)
+    least::least_over(w, 0, r, kids)
 }

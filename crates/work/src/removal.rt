@@ -3,9 +3,9 @@
 // the path is evicted."
 ghost use Prim.Native.Nat.{_≤_};
 ghost use Rattle.record.specs.Words.{records};
-ghost use Rattle.gather.specs.Removal.{named};
+ghost use Rattle.clearing.specs.Removal.{named};
 ghost use Rattle.mend.specs.Mended.{MendRoom};
-ghost use Rattle.work.specs.Work.{PathRemoved};
+ghost use Rattle.work.specs.RemovalWork.{PathRemoved};
 use crate::work_path;
 use path::Sizes;
 use record::Leaf;
@@ -32,7 +32,7 @@ pub fn remove_path(
     requires { ⌜ (MendRoom sizes label (now path) (now w) (now sibs)) × (sizes .r ≤ 64) ⌝ }
     ensures { λ out. ⌜ PathRemoved sizes label (named label stamp) (records (now (sibs .entry))) (records (now (w .entry))) root (now (path .exit)) out ⌝ }
 {
-    let found = gather::clear(w, label, stamp);
+    let found = clearing::clear(w, label, stamp);
     let least = work_path(w, sibs, path, sizes, label);
     let r = sizes.r as usize;
     let next = gather::save_root(w, root, r);

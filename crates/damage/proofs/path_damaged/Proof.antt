@@ -4,7 +4,8 @@ use native.Mathlib.Omega.{arith}
 use mathlib.Core.Bool.{not}
 use mathlib.Core.Path.{sym, ap, _∙_}
 use Rattle.damage.specs.Damaged.{pathDamaged}
-use Rattle.damage.proofs.Checking.{passes, refuses, first-shown, first-beside, root-true}
+use Rattle.sound.proofs.Checking.{passes, refuses}
+use Rattle.damage.proofs.RootLaws.{first-shown, first-beside, root-true}
 use Rattle.damage.proofs.path_damaged.Statement.{statement}
 use Rattle.damage.proofs.path_damaged.Tie as tie
 

@@ -1,6 +1,6 @@
 -- `head_words` meets its contract: the six words of the request follow the other six. Assumes nothing.
 use borrow.Author.Needs.{needs}
-use Rattle.image.proofs.ImageLaws.{request-words}
+use Rattle.kinds.proofs.KindLaws.{request-words}
 use Rattle.image.proofs.head_words.Statement.{statement}
 use Rattle.image.proofs.head_words.Tie as tie
 

@@ -4,7 +4,7 @@ use mathlib.Core.Path.{_≡_, _∙_}
 use lib.ListN.{length}
 use Rattle.refusal.specs.Refusal.{firstGiven}
 use Rattle.rack.specs.Answers.{fillTable}
-use Rattle.rack.proofs.LayoutLaws.{tree-records}
+use Rattle.copies.proofs.LayoutLaws.{tree-records}
 use Rattle.rack.proofs.RefusalLaws.{fill-passes}
 use Rattle.rack.proofs.AnswerLaws.{refused, passed, done}
 use Rattle.rack.proofs.fill.Statement.{statement}

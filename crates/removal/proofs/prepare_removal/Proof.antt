@@ -1,124 +1,90 @@
 use borrow.Author.Needs.{needs}
 use native.Mathlib.Omega.{arith}
-use mathlib.Core.Path.{_≡_, sym, _∙_}
-use Prim.Native.Nat.{_-_}
-use lib.ListN.{length}
-use Rattle.gather.specs.Removal.{named}
-use Rattle.removal.proofs.RemovalLaws.{lent-room, verdict, fetched-bad, left-bad, left-good}
+use mathlib.Core.Path.{_∙_}
+use Rattle.clearing.specs.Removal.{named}
+use Rattle.removal.proofs.RemovalLaws.{fetched-bad, left-judged}
 use Rattle.removal.proofs.prepare_removal.Statement.{statement}
 use Rattle.removal.proofs.prepare_removal.Tie as tie
 
-show-path-requires : tie.Need-show-path-requires
-show-path-requires c κs =
-    let (room, scratch) = c .before .before .before .before .before .before .pre in
-    record { roots = room .parts .sizes .roots; width = room .parts .sizes .width; slots = scratch .slots; siblings = scratch .siblings; fetched = room .fetched }
+way-words-requires : tie.Need-way-words-requires
+way-words-requires c κs = search needs
 
-sub-path-damaged : tie.Need-sub-path-damaged
-sub-path-damaged c = search needs
+mul-siblings : tie.Need-mul-siblings
+mul-siblings c = search needs
 
-part-path-damaged-start : tie.Need-part-path-damaged-start
-part-path-damaged-start c = search needs
+sub-w : tie.Need-sub-w
+sub-w c = search needs
 
-part-path-damaged-end : tie.Need-part-path-damaged-end
-part-path-damaged-end c =
-    omega (arith, c .before .before .before .before .before .before .before .before .before .before .before .pre .0 .fetched, c .before .before .before .before .before .before .before .before .before .before .before .pre .1 .buckets)
+part-way-start : tie.Need-part-way-start
+part-way-start c = search needs
 
-path-damaged-requires : tie.Need-path-damaged-requires
-path-damaged-requires c κs =
-    let s = c .before .before .before .before .before .before .before .before .before .before .before .before .before .before .args in
-    let (room, scratch) = c .before .before .before .before .before .before .before .before .before .before .before .before .before .before .pre in
-    (lent-room (s .sizes) (s .t) (s .c) (s .label) (s .words .now) (length (s .path .now) - 0) room (omega (arith, scratch .buckets)), (omega (arith, scratch .siblings, c .before .before .before .before .before .before .before .show-path .kept .1 .0), omega (arith, scratch .slots, c .before .before .before .before .before .before .before .show-path .kept .0)))
+part-way-end : tie.Need-part-way-end
+part-way-end c = search needs
+
+sub-sibs : tie.Need-sub-sibs
+sub-sibs c = search needs
+
+part-beside-start : tie.Need-part-beside-start
+part-beside-start c = search needs
+
+part-beside-end : tie.Need-part-beside-end
+part-beside-end c = search needs
+
+look-path-requires : tie.Need-look-path-requires
+look-path-requires c κs =
+    let (room, rest) = c .before .before .before .before .before .before .before .pre in
+    record { sizes = room .parts .sizes; leaf = room .leaf; fetched = room .fetched; slots = search needs; siblings = search needs }
 
 unsettled-requires : tie.Need-unsettled-requires
 unsettled-requires c κs = search needs
 
-same-length : tie.Need-same-length
-same-length c = search needs
-
-same-length-2 : tie.Need-same-length-2
-same-length-2 c = search needs
-
 returns : tie.Need-returns
 returns c =
-    let s = c .before .before .before .before .before .before .before .before .before .before .before .before .before .before .before .before .before .args in
-    let good = verdict (s .sizes) (s .t) (s .c) (s .root) (s .least) (s .words .now) (s .label) (named (s .label) (s .stamp)) (c .before .before .before .before .before .before .before .before .before .before .before .before .before .before .before .before .before .pre .0) _ _ _ (c .before .before .before .before .before .before .before .before .before .before .show-path .ensures) (length (s .path .now) - 0) _ (omega (arith, c .before .before .before .before .before .before .before .before .before .before .before .before .before .before .before .before .before .pre .1 .buckets)) (c .before .before .path-damaged .ensures) in
-    fetched-bad (s .sizes) (s .t) (s .c) (s .root) (s .least) (s .words .now) (s .label) (named (s .label) (s .stamp)) (c .before .before .before .before .before .before .before .before .before .before .before .before .before .before .before .before .before .pre .0) _ _ _ (c .before .before .before .before .before .before .before .before .before .before .show-path .ensures) _ _ (sym good ∙ c .before .if1 .taken) (c .unsettled .ensures)
+    let s = c .before .before .before .before .before .before .before .before .before .before .before .before .before .before .before .before .args in
+    fetched-bad (s .sizes) (s .t) (s .c) (s .root) (s .least) (s .words .now) (s .label) (named (s .label) (s .stamp)) _ _ _ (c .before .before .before .before .before .before .before .before .look-path .ensures) _ _ (c .before .before .before .if1 .taken) (c .unsettled .ensures)
 
 remove-path-requires : tie.Need-remove-path-requires
 remove-path-requires c κs =
-    let (room, scratch) = c .before .before .before .before .before .before .before .before .before .before .before .before .before .before .before .before .before .before .before .pre in
-    (record { height = room .parts .sizes .height .1; width = room .parts .sizes .width; leaf = room .leaf; buckets = scratch .buckets; slots = omega (arith, scratch .slots, c .before .before .before .before .before .before .before .before .before .before .before .before .show-path .kept .0); siblings = omega (arith, scratch .siblings, c .before .before .before .before .before .before .before .before .before .before .before .before .show-path .kept .1 .0) }, room .parts .sizes .roots)
+    let (room, path) = c .before .before .before .before .before .before .before .before .before .before .before .before .before .before .before .pre in
+    (record { height = room .parts .sizes .height .1; width = room .parts .sizes .width; leaf = room .leaf; buckets = path; slots = c .before .before .before .before .before .before .before .look-path .kept .1 .0 ∙ search needs; siblings = search needs }, room .parts .sizes .roots)
 
 live-after-requires : tie.Need-live-after-requires
 live-after-requires c κs = search needs
 
-add-comes-out-bad : tie.Need-add-comes-out-bad
-add-comes-out-bad c =
-    omega (arith, c .before .before .before .before .before .before .before .before .before .before .before .before .before .before .before .before .before .before .before .before .before .before .before .before .before .before .before .pre .0 .parts .counts)
+add-judged : tie.Need-add-judged
+add-judged c =
+    omega (arith, c .before .before .before .before .before .before .before .before .before .before .before .before .before .before .before .before .before .before .before .before .before .before .before .pre .0 .parts .counts)
 
-comes-out-bad-requires : tie.Need-comes-out-bad-requires
-comes-out-bad-requires c κs = search needs
+judged-requires : tie.Need-judged-requires
+judged-requires c κs = search needs
 
-unsettled-requires-2 : tie.Need-unsettled-requires-2
-unsettled-requires-2 c κs = search needs
-
-same-length-3 : tie.Need-same-length-3
-same-length-3 c =
-    omega (arith, c .before .before .before .before .before .before .before .before .before .before .before .before .before .before .before .before .before .before .before .before .before .before .before .show-path .kept .0, c .before .before .before .before .before .before .before .before .before .before .remove-path .kept .0)
-
-same-length-4 : tie.Need-same-length-4
-same-length-4 c =
-    omega (arith, c .before .before .before .before .before .before .before .before .before .before .before .before .before .before .before .before .before .before .before .before .before .before .before .show-path .kept .1 .0)
-
-same-length-5 : tie.Need-same-length-5
-same-length-5 c = search needs
+same-length : tie.Need-same-length
+same-length c =
+    omega (arith, c .before .before .before .before .before .before .before .before .remove-path .kept .1 .1 .0)
 
 returns-2 : tie.Need-returns-2
 returns-2 c =
-    let s = c .before .before .before .before .before .before .before .before .before .before .before .before .before .before .before .before .before .before .before .before .before .before .before .before .before .before .before .before .before .before .args in
-    let good = verdict (s .sizes) (s .t) (s .c) (s .root) (s .least) (s .words .now) (s .label) (named (s .label) (s .stamp)) (c .before .before .before .before .before .before .before .before .before .before .before .before .before .before .before .before .before .before .before .before .before .before .before .before .before .before .before .before .before .before .pre .0) _ _ _ (c .before .before .before .before .before .before .before .before .before .before .before .before .before .before .before .before .before .before .before .before .before .before .before .show-path .ensures) (length (s .path .now) - 0) _ (omega (arith, c .before .before .before .before .before .before .before .before .before .before .before .before .before .before .before .before .before .before .before .before .before .before .before .before .before .before .before .before .before .before .pre .1 .buckets)) (c .before .before .before .before .before .before .before .before .before .before .before .before .before .before .before .path-damaged .ensures) in
-    left-bad (s .sizes) (s .t) (s .c) (s .root) (s .least) (s .words .now) (s .label) (named (s .label) (s .stamp)) (c .before .before .before .before .before .before .before .before .before .before .before .before .before .before .before .before .before .before .before .before .before .before .before .before .before .before .before .before .before .before .pre .0) _ _ _ (c .before .before .before .before .before .before .before .before .before .before .before .before .before .before .before .before .before .before .before .before .before .before .before .show-path .ensures) _ _ (c .before .before .before .before .before .before .before .before .before .before .remove-path .ensures) _ (c .before .before .before .live-after .ensures) (sym good ∙ c .before .before .before .before .before .before .before .before .before .before .before .before .before .before .if1 .left) _ _ (c .before .before .comes-out-bad .ensures) (c .before .if2 .taken) (c .unsettled2 .ensures)
-
-same-length-6 : tie.Need-same-length-6
-same-length-6 c =
-    omega (arith, c .before .before .before .before .before .before .before .before .before .before .before .before .before .before .before .before .before .before .before .before .before .before .show-path .kept .0, c .before .before .before .before .before .before .before .before .before .remove-path .kept .0)
-
-same-length-7 : tie.Need-same-length-7
-same-length-7 c =
-    omega (arith, c .before .before .before .before .before .before .before .before .before .before .before .before .before .before .before .before .before .before .before .before .before .before .show-path .kept .1 .0)
-
-same-length-8 : tie.Need-same-length-8
-same-length-8 c = search needs
-
-returns-3 : tie.Need-returns-3
-returns-3 c =
-    let s = c .before .before .before .before .before .before .before .before .before .before .before .before .before .before .before .before .before .before .before .before .before .before .before .before .before .before .before .before .before .args in
-    let good = verdict (s .sizes) (s .t) (s .c) (s .root) (s .least) (s .words .now) (s .label) (named (s .label) (s .stamp)) (c .before .before .before .before .before .before .before .before .before .before .before .before .before .before .before .before .before .before .before .before .before .before .before .before .before .before .before .before .before .pre .0) _ _ _ (c .before .before .before .before .before .before .before .before .before .before .before .before .before .before .before .before .before .before .before .before .before .before .show-path .ensures) (length (s .path .now) - 0) _ (omega (arith, c .before .before .before .before .before .before .before .before .before .before .before .before .before .before .before .before .before .before .before .before .before .before .before .before .before .before .before .before .before .pre .1 .buckets)) (c .before .before .before .before .before .before .before .before .before .before .before .before .before .before .path-damaged .ensures) in
-    left-good (s .sizes) (s .t) (s .c) (s .root) (s .least) (s .words .now) (s .label) (named (s .label) (s .stamp)) (c .before .before .before .before .before .before .before .before .before .before .before .before .before .before .before .before .before .before .before .before .before .before .before .before .before .before .before .before .before .pre .0) _ _ _ (c .before .before .before .before .before .before .before .before .before .before .before .before .before .before .before .before .before .before .before .before .before .before .show-path .ensures) _ _ (c .before .before .before .before .before .before .before .before .before .remove-path .ensures) _ (c .before .before .live-after .ensures) (sym good ∙ c .before .before .before .before .before .before .before .before .before .before .before .before .before .if1 .left) _ (c .before .comes-out-bad .ensures) (c .if2 .left)
+    let s = c .before .before .before .before .before .before .before .before .before .before .before .before .before .before .before .before .before .before .before .before .before .before .before .before .args in
+    left-judged (s .sizes) (s .t) (s .c) (s .root) (s .least) (s .words .now) (s .label) (named (s .label) (s .stamp)) _ _ _ (c .before .before .before .before .before .before .before .before .before .before .before .before .before .before .before .before .look-path .ensures) _ _ (c .before .before .before .before .before .before .before .before .remove-path .ensures) _ (c .before .live-after .ensures) (c .before .before .before .before .before .before .before .before .before .before .before .if1 .left) _ (c .judged .ensures)
 
 pub prepare-removal-spec : {M : Type 1} → statement M
 prepare-removal-spec =
     tie.close
     (tie.spec
-    show-path-requires
-    sub-path-damaged
-    part-path-damaged-start
-    part-path-damaged-end
-    path-damaged-requires
+    way-words-requires
+    mul-siblings
+    sub-w
+    part-way-start
+    part-way-end
+    sub-sibs
+    part-beside-start
+    part-beside-end
+    look-path-requires
     unsettled-requires
-    same-length
-    same-length-2
     returns
     remove-path-requires
     live-after-requires
-    add-comes-out-bad
-    comes-out-bad-requires
-    unsettled-requires-2
-    same-length-3
-    same-length-4
-    same-length-5
-    returns-2
-    same-length-6
-    same-length-7
-    same-length-8
-    returns-3)
+    add-judged
+    judged-requires
+    same-length
+    returns-2)

@@ -9,13 +9,8 @@ use Rattle.told.proofs.tell.Tie as tie
 number-requires : tie.Need-number-requires
 number-requires c κs = search needs
 
-fill-requires : tie.Need-fill-requires
-fill-requires c κs = search needs
-
 returns : tie.Need-returns
-returns c =
-    let e : answerNumber (c .before .before .before .before .args .said) ≡ 0 = sym (c .before .before .before .number .ensures) ∙ c .before .before .if1 .taken in
-    record { number = c .before .before .before .number .ensures; answer = rw e (c .fill .ensures) }
+returns c = search needs
 
 returns-2 : tie.Need-returns-2
 returns-2 c =
@@ -25,4 +20,4 @@ returns-2 c =
     }
 
 pub tell-spec : {M : Type 1} → statement M
-tell-spec = tie.close (tie.spec number-requires fill-requires returns returns-2)
+tell-spec = tie.close (tie.spec number-requires returns returns-2)

@@ -1,8 +1,8 @@
 use borrow.Author.Needs.{needs}
 use mathlib.Core.Path.{_≡_, sym, _∙_}
 use lib.ListN.{length}
-use Rattle.card.proofs.FinishLaws.{some-waits}
-use Rattle.card.proofs.FinishedLaws.{entry-refused}
+use Rattle.card.proofs.FinishLaws.{entered, clock-fits, request-ready}
+use Rattle.card.proofs.FinishedLaws.{entry-refused, request-damaged, request-done}
 use Rattle.card.proofs.Card.finish.Statement.{statement}
 use Rattle.card.proofs.Card.finish.Tie as tie
 
@@ -17,72 +17,35 @@ returns c =
     let s = c .before .before .before .before .args in
     rw (c .refuse .ensures) (entry-refused (s .self) (s .words .now) _ (c .before .before .why-finish .ensures) (c .before .if1 .taken))
 
-enum-told : tie.Need-enum-told
-enum-told c = search needs
+settle-request-requires : tie.Need-settle-request-requires
+settle-request-requires c κs =
+    let s = c .before .before .before .before .before .before .args in
+    request-ready (s .self) (s .words .now) (sym (c .before .before .before .before .why-finish .ensures) ∙ c .before .before .before .if1 .left)
 
 refuse-requires-2 : tie.Need-refuse-requires-2
 refuse-requires-2 c κs = search needs
 
-enum-known-waiting : tie.Need-enum-known-waiting
-enum-known-waiting c = search needs
-
-finish-insert-requires : tie.Need-finish-insert-requires
-finish-insert-requires c κs = search needs
-
-enum-told-2 : tie.Need-enum-told-2
-enum-told-2 c = search needs
-
-finish-extract-requires : tie.Need-finish-extract-requires
-finish-extract-requires c κs = search needs
-
-enum-known-waiting-2 : tie.Need-enum-known-waiting-2
-enum-known-waiting-2 c = search needs
-
-finish-delete-requires : tie.Need-finish-delete-requires
-finish-delete-requires c κs = search needs
-
-returns-2 : tie.Need-returns-2
-returns-2 c =
-    let s = c .before .before .before .before .before .before .args in
-    absurd (some-waits (s .self) (length (s .words .now)) (sym (c .before .before .before .before .why-finish .ensures) ∙ c .before .before .before .if1 .left) (c .before .enum-told .given .1))
-
 same-length : tie.Need-same-length
 same-length c = search needs
 
-returns-3 : tie.Need-returns-3
-returns-3 c = search needs
+returns-2 : tie.Need-returns-2
+returns-2 c =
+    let s = c .before .before .before .before .before .before .before .before .before .before .before .args in
+    request-damaged (s .self) (s .words .now) (sym (c .before .before .before .before .before .before .before .before .before .why-finish .ensures) ∙ c .before .before .before .before .before .before .before .before .if1 .left) _ _ (c .before .before .before .before .settle-request .ensures) _ (c .before .if2 .taken) (c .refuse2 .ensures)
+
+done-with-requires : tie.Need-done-with-requires
+done-with-requires c κs =
+    let s = c .before .before .before .before .before .before .before .before .before .before .args in
+    clock-fits (s .self) (entered (s .self) (length (s .words .now)) (sym (c .before .before .before .before .before .before .before .before .why-finish .ensures) ∙ c .before .before .before .before .before .before .before .if1 .left) .card)
 
 same-length-2 : tie.Need-same-length-2
 same-length-2 c = search needs
 
-returns-4 : tie.Need-returns-4
-returns-4 c = search needs
-
-same-length-3 : tie.Need-same-length-3
-same-length-3 c = search needs
-
-returns-5 : tie.Need-returns-5
-returns-5 c = search needs
+returns-3 : tie.Need-returns-3
+returns-3 c =
+    let s = c .before .before .before .before .before .before .before .before .before .before .before .args in
+    request-done (s .self) (s .words .now) (sym (c .before .before .before .before .before .before .before .before .before .why-finish .ensures) ∙ c .before .before .before .before .before .before .before .before .if1 .left) _ _ (c .before .before .before .before .settle-request .ensures) _ (c .before .if2 .left) (c .done-with .ensures)
 
 pub finish-spec : {M : Type 1} → statement M
 finish-spec =
-    tie.close
-    (tie.spec
-    why-finish-requires
-    refuse-requires
-    returns
-    enum-told
-    refuse-requires-2
-    enum-known-waiting
-    finish-insert-requires
-    enum-told-2
-    finish-extract-requires
-    enum-known-waiting-2
-    finish-delete-requires
-    returns-2
-    same-length
-    returns-3
-    same-length-2
-    returns-4
-    same-length-3
-    returns-5)
+    tie.close (tie.spec why-finish-requires refuse-requires returns settle-request-requires refuse-requires-2 same-length returns-2 done-with-requires same-length-2 returns-3)

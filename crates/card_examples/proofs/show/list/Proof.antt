@@ -11,11 +11,11 @@ Inv-loop places i₀ i = i ≤ length places
 abbrev μ-loop : tie.MeasureT-loop
 μ-loop places i₀ i = length places - i
 
-slice-aggregate-name : tie.Need-slice-aggregate-name Inv-loop μ-loop
-slice-aggregate-name c = search needs
+slice-aggregate-text : tie.Need-slice-aggregate-text Inv-loop μ-loop
+slice-aggregate-text c = search needs
 
-name-requires : tie.Need-name-requires Inv-loop μ-loop
-name-requires c κs = search needs
+text-requires : tie.Need-text-requires Inv-loop μ-loop
+text-requires c κs = search needs
 
 loop-holds : tie.Need-loop-holds Inv-loop μ-loop
 loop-holds c = search needs
@@ -47,8 +47,8 @@ list-spec =
     (tie.spec
     Inv-loop
     μ-loop
-    slice-aggregate-name
-    name-requires
+    slice-aggregate-text
+    text-requires
     loop-holds
     mul-number
     shared-slice-read-number

@@ -1,19 +1,11 @@
--- `nwidarap_finish` meets its contract: a kind above 3 first, then as the card's own finish. Assumes nothing.
+-- `nwidarap_finish` meets its contract: as the card's own finish on the card that is held. Assumes nothing.
 use borrow.Author.Needs.{needs}
-use mathlib.Core.Path.{sym, _∙_}
-use Rattle.driver.proofs.DrivenLaws.{odd-finish, even-finish}
+use Rattle.driver.proofs.DrivenLaws.{held-finish}
 use Rattle.driver.proofs.requests.nwidarap_finish.Statement.{statement}
 use Rattle.driver.proofs.requests.nwidarap_finish.Tie as tie
 
-is-odd-requires : tie.Need-is-odd-requires
-is-odd-requires c κs = search needs
-
-returns : tie.Need-returns
-returns c =
-    odd-finish (c .before .before .before .before .args .card .now) _ _ (sym (c .before .is-odd .ensures) ∙ c .if1 .taken)
-
-read-requires : tie.Need-read-requires
-read-requires c κs = search needs
+card-of-requires : tie.Need-card-of-requires
+card-of-requires c κs = search needs
 
 finish-requires : tie.Need-finish-requires
 finish-requires c κs = search needs
@@ -24,18 +16,11 @@ settle-requires c κs = search needs
 same-length : tie.Need-same-length
 same-length c = search needs
 
-returns-2 : tie.Need-returns-2
-returns-2 c =
-    even-finish (c .before .before .before .before .before .before .before .before .before .before .before .before .before .args .card .now) _ _ _ _ _ _ _ _ (sym (c .before .before .before .before .before .before .before .before .before .before .is-odd .ensures) ∙ c .before .before .before .before .before .before .before .before .before .if1 .left) (c .before .before .before .before .before .before .before .read .ensures) (c .before .before .before .before .before .finish .ensures) (c .settle .ensures)
+returns : tie.Need-returns
+returns c =
+    let a = c .before .before .before .before .before .before .before .before .before .before .args in
+    held-finish (a .card .now) (a .answer .now) (a .words .now) _ _ _ _ _ _ (c .before .before .before .before .before .before .before .card-of .ensures) (c .before .before .before .before .before .finish .ensures) (c .settle .ensures)
 
 pub nwidarap-finish-spec : {M : Type 1} → statement M
 nwidarap-finish-spec =
-    tie.close
-    (tie.spec
-    is-odd-requires
-    returns
-    read-requires
-    finish-requires
-    settle-requires
-    same-length
-    returns-2)
+    tie.close (tie.spec card-of-requires finish-requires settle-requires same-length returns)

@@ -1,20 +1,12 @@
--- `nwidarap_insert` meets its contract: a kind above 3 first, then as the card's own begin. Assumes nothing.
+-- `nwidarap_insert` meets its contract: as the card's own begin on the card that is held. Assumes nothing.
 use borrow.Author.Needs.{needs}
-use mathlib.Core.Path.{sym, _∙_}
 use Rattle.request.specs.declared.Waiting.the-variants.{Insert}
-use Rattle.driver.proofs.DrivenLaws.{odd-begin, even-begin}
+use Rattle.driver.proofs.DrivenLaws.{held-begin}
 use Rattle.driver.proofs.requests.nwidarap_insert.Statement.{statement}
 use Rattle.driver.proofs.requests.nwidarap_insert.Tie as tie
 
-is-odd-requires : tie.Need-is-odd-requires
-is-odd-requires c κs = search needs
-
-returns : tie.Need-returns
-returns c =
-    odd-begin (Insert (c .before .before .before .before .args .key) (c .before .before .before .before .args .value) (record { 0 = c .before .before .before .before .args .label }) (record { 0 = c .before .before .before .before .args .first }) (record { 0 = c .before .before .before .before .args .second })) (c .before .before .before .before .args .card .now) _ _ (sym (c .before .is-odd .ensures) ∙ c .if1 .taken)
-
-read-requires : tie.Need-read-requires
-read-requires c κs = search needs
+card-of-requires : tie.Need-card-of-requires
+card-of-requires c κs = search needs
 
 begin-insert-requires : tie.Need-begin-insert-requires
 begin-insert-requires c κs = search needs
@@ -25,18 +17,11 @@ settle-requires c κs = search needs
 same-length : tie.Need-same-length
 same-length c = search needs
 
-returns-2 : tie.Need-returns-2
-returns-2 c =
-    even-begin (Insert (c .before .before .before .before .before .before .before .before .before .before .before .before .before .args .key) (c .before .before .before .before .before .before .before .before .before .before .before .before .before .args .value) (record { 0 = c .before .before .before .before .before .before .before .before .before .before .before .before .before .args .label }) (record { 0 = c .before .before .before .before .before .before .before .before .before .before .before .before .before .args .first }) (record { 0 = c .before .before .before .before .before .before .before .before .before .before .before .before .before .args .second })) (c .before .before .before .before .before .before .before .before .before .before .before .before .before .args .card .now) _ _ _ _ _ _ _ _ (sym (c .before .before .before .before .before .before .before .before .before .before .is-odd .ensures) ∙ c .before .before .before .before .before .before .before .before .before .if1 .left) (c .before .before .before .before .before .before .before .read .ensures) (c .before .before .before .before .before .begin-insert .ensures) (c .settle .ensures)
+returns : tie.Need-returns
+returns c =
+    let a = c .before .before .before .before .before .before .before .before .before .before .args in
+    held-begin (Insert (a .key) (a .value) (record { 0 = a .label }) (record { 0 = a .first }) (record { 0 = a .second })) (a .card .now) (a .answer .now) (a .list .now) _ _ _ _ _ _ (c .before .before .before .before .before .before .before .card-of .ensures) (c .before .before .before .before .before .begin-insert .ensures) (c .settle .ensures)
 
 pub nwidarap-insert-spec : {M : Type 1} → statement M
 nwidarap-insert-spec =
-    tie.close
-    (tie.spec
-    is-odd-requires
-    returns
-    read-requires
-    begin-insert-requires
-    settle-requires
-    same-length
-    returns-2)
+    tie.close (tie.spec card-of-requires begin-insert-requires settle-requires same-length returns)

@@ -1,8 +1,8 @@
 use borrow.Author.Needs.{needs}
 use native.Mathlib.Omega.{arith}
 use mathlib.Core.Path.{_∙_, ap}
-use Rattle.path.specs.declared.list.Listed.{Listed}
-use Rattle.path.proofs.ListLaws.{pair-counts, length-pair-numbers}
+use Rattle.lists.specs.declared.Listed.{Listed}
+use Rattle.lists.proofs.ListLaws.{pair-counts, length-pair-numbers}
 use Rattle.examples.proofs.paths.pair_line.Statement.{statement}
 use Rattle.examples.proofs.paths.pair_line.Tie as tie
 

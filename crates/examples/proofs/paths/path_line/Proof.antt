@@ -1,8 +1,8 @@
 use borrow.Author.Needs.{needs}
 use native.Mathlib.Omega.{arith}
 use mathlib.Core.Path.{_∙_, ap}
-use Rattle.path.specs.declared.list.Listed.{Listed}
-use Rattle.path.proofs.ListLaws.{path-counts, length-path-numbers}
+use Rattle.lists.specs.declared.Listed.{Listed}
+use Rattle.lists.proofs.ListLaws.{path-counts, length-path-numbers}
 use Rattle.examples.proofs.paths.path_line.Statement.{statement}
 use Rattle.examples.proofs.paths.path_line.Tie as tie
 

@@ -1,5 +1,6 @@
 -- `lines::says::delete` meets its contract. The numbers behind the word say it, or nothing does. Assumes nothing.
 use borrow.Author.Needs.{needs}
+use mathlib.Core.Path.{refl}
 use borrow.Author.Tests.{not-true, not-false}
 use Rattle.lines.specs.Says.{deleteKind}
 use Rattle.lines.proofs.SaysLaws.{said, unsaid}
@@ -13,7 +14,7 @@ numbers-requires : tie.Need-numbers-requires
 numbers-requires c κs = search needs
 
 returns : tie.Need-returns
-returns c = unsaid deleteKind _ _ _ (c .before .before .numbers .ensures) (not-true _ (c .if1 .taken))
+returns c = unsaid deleteKind _ _ _ _ (c .before .before .numbers .ensures) refl (not-true _ (c .if1 .taken))
 
 array-read-t10 : tie.Need-array-read-t10
 array-read-t10 c = search needs
@@ -22,7 +23,7 @@ array-read-t14 : tie.Need-array-read-t14
 array-read-t14 c = search needs
 
 returns-2 : tie.Need-returns-2
-returns-2 c = said deleteKind _ _ _ (c .before .before .numbers .ensures) (not-false _ (c .if1 .left))
+returns-2 c = said deleteKind _ _ _ _ (c .before .before .numbers .ensures) refl (not-false _ (c .if1 .left))
 
 pub delete-spec : {M : Type 1} → statement M
 delete-spec =

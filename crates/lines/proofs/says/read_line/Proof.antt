@@ -3,12 +3,11 @@ use borrow.Author.Needs.{needs}
 use native.Mathlib.Omega.{arith}
 use mathlib.Core.List.{[], _∷_}
 use mathlib.Core.Path.{_≡_, sym, _∙_}
-use lib.ListN.{take, drop}
-use lib.Seq.{length-take-le}
 use Prim.Native.Nat.{_≤_}
-use lib.ListN.{length}
+use lib.ListN.{length, take, drop}
+use lib.Seq.{length-take-le}
+use Rattle.fields.specs.Behind.{behind}
 use Rattle.lines.specs.Says.{kinds, sizeKind, insertKind, minKind, extractKind, deleteKind, saidBy, lineSays}
-use Rattle.lines.specs.Behind.{behind}
 use Rattle.lines.proofs.SaysLaws.{over-long, word-fits, line-said, said-first, said-later, unknown-word}
 use Rattle.lines.proofs.says.read_line.Statement.{statement}
 use Rattle.lines.proofs.says.read_line.Tie as tie
@@ -52,7 +51,7 @@ same-requires : tie.Need-same-requires
 same-requires c κs = search needs
 
 size-requires : tie.Need-size-requires
-size-requires c κs = fits (c .before .before .before .before)
+size-requires c κs = search needs
 
 returns-2 : tie.Need-returns-2
 returns-2 c =
@@ -65,7 +64,7 @@ same-requires-2 : tie.Need-same-requires-2
 same-requires-2 c κs = search needs
 
 insert-requires : tie.Need-insert-requires
-insert-requires c κs = fits (c .before .before .before .before .before .before .before)
+insert-requires c κs = search needs
 
 returns-3 : tie.Need-returns-3
 returns-3 c =
@@ -78,7 +77,7 @@ same-requires-3 : tie.Need-same-requires-3
 same-requires-3 c κs = search needs
 
 min-requires : tie.Need-min-requires
-min-requires c κs = fits (c .before .before .before .before .before .before .before .before .before .before)
+min-requires c κs = search needs
 
 returns-4 : tie.Need-returns-4
 returns-4 c =
@@ -91,8 +90,7 @@ same-requires-4 : tie.Need-same-requires-4
 same-requires-4 c κs = search needs
 
 extract-requires : tie.Need-extract-requires
-extract-requires c κs =
-    fits (c .before .before .before .before .before .before .before .before .before .before .before .before .before)
+extract-requires c κs = search needs
 
 returns-5 : tie.Need-returns-5
 returns-5 c =
@@ -105,8 +103,7 @@ same-requires-5 : tie.Need-same-requires-5
 same-requires-5 c κs = search needs
 
 delete-requires : tie.Need-delete-requires
-delete-requires c κs =
-    fits (c .before .before .before .before .before .before .before .before .before .before .before .before .before .before .before .before)
+delete-requires c κs = search needs
 
 returns-6 : tie.Need-returns-6
 returns-6 c =

@@ -1,6 +1,6 @@
 -- `mending::write_bucket`: the least record's words, then those of the slots. Assumes nothing.
 use borrow.Author.Needs.{needs}
-use Rattle.mend.proofs.StoreLaws.{bucket-laid}
+use Rattle.mend.proofs.BucketLaws.{bucket-laid}
 use Rattle.mend.proofs.mending.write_bucket.Statement.{statement}
 use Rattle.mend.proofs.mending.write_bucket.Tie as tie
 

@@ -1,4 +1,4 @@
--- `rack::refusal::few_words` meets its contract, by division. Assumes nothing.
+-- `rack::refusing::few_words` meets its contract, by division. Assumes nothing.
 use borrow.Author.Needs.{needs}
 use native.Mathlib.Omega.{arith}
 use Rattle.rack.proofs.RefusalLaws.{few-for-whole, whole-fit, few-for-least}

@@ -1,10 +1,8 @@
--- `rack::refusal::of_copy` meets its contract: a return for each row of the table, the counts in two. Assumes nothing.
+-- `rack::refusing::of_copy` meets its contract: a return for each row of the table, the counts in two. Assumes nothing.
 use borrow.Author.Needs.{needs}
 use native.Mathlib.Omega.{arith}
-use Prim.Native.Nat.{_+_}
 use mathlib.Core.Bool.{true}
 use mathlib.Core.Path.{_≡_, sym, _∙_}
-use lib.Seq.{length-take-le}
 use borrow.Author.Tests.{not-true, not-false, ne-eqb, ltb-false}
 use Rattle.path.specs.Sizes.{treeIn}
 use Rattle.path.proofs.SizesLaws.{tree-in}
@@ -59,27 +57,22 @@ returns-5 c =
 add-covered : tie.Need-add-covered
 add-covered c = search needs
 
-slice-aggregate-any-outside : tie.Need-slice-aggregate-any-outside
-slice-aggregate-any-outside c =
-    let s = c .before .before .before .before .before .before .before .before .before .before .args in
-    sym (length-take-le (s .whole + s .least) (s .list .now) (omega arith))
-
 any-outside-requires : tie.Need-any-outside-requires
-any-outside-requires c κs = omega (arith, tree-in _ _ (tree-is (c .before .before .before .before .before) .sizes))
+any-outside-requires c κs = omega (arith, tree-in _ _ (tree-is (c .before .before .before .before) .sizes))
 
 returns-6 : tie.Need-returns-6
 returns-6 c =
-    let s = c .before .before .before .before .before .before .before .before .before .before .before .before .args in
-    refuses-buckets (tree-is (c .before .before .before .before .before .before .before)) (s .list .now) (s .whole) (s .least) (s .words) (omega arith)
-    (sym (c .before .before .before .before .few-words .ensures) ∙ c .before .before .before .if5 .left) (sym (c .before .any-outside .ensures) ∙ c .if6 .taken)
+    let s = c .before .before .before .before .before .before .before .before .before .before .before .args in
+    refuses-buckets (tree-is (c .before .before .before .before .before .before)) (s .list .now) (s .whole) (s .least) (s .words) (omega arith)
+    (sym (c .before .before .before .few-words .ensures) ∙ c .before .before .if5 .left) (sym (c .before .any-outside .ensures) ∙ c .if6 .taken)
 
 returns-7 : tie.Need-returns-7
 returns-7 c =
-    let s = c .before .before .before .before .before .before .before .before .before .before .before .before .args in
+    let s = c .before .before .before .before .before .before .before .before .before .before .before .args in
     sym (passes-copy _ _ _ _ _ _ _ (record {
-      passes = tree-is (c .before .before .before .before .before .before .before);
+      passes = tree-is (c .before .before .before .before .before .before);
       counted = omega arith;
-      room = ltb-false _ _ (sym (c .before .before .before .before .few-words .ensures) ∙ c .before .before .before .if5 .left);
+      room = ltb-false _ _ (sym (c .before .before .before .few-words .ensures) ∙ c .before .before .if5 .left);
       inside = sym (c .before .any-outside .ensures) ∙ c .if6 .left;
     }))
 
@@ -97,7 +90,6 @@ of-copy-spec =
     few-words-requires
     returns-5
     add-covered
-    slice-aggregate-any-outside
     any-outside-requires
     returns-6
     returns-7)

@@ -1,4 +1,4 @@
--- `rack::refusal::of_fill` meets its contract: a return for each row of the table. Assumes nothing.
+-- `rack::refusing::of_fill` meets its contract: a return for each row of the table. Assumes nothing.
 use borrow.Author.Needs.{needs}
 use mathlib.Core.Path.{sym, _∙_}
 use borrow.Author.Tests.{not-true, not-false, eq-eqb, ne-eqb}

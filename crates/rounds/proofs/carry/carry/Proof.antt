@@ -10,9 +10,6 @@ slice-aggregate-fetch c = search needs
 fetch-requires : tie.Need-fetch-requires
 fetch-requires c κs = search needs
 
-is-done-requires : tie.Need-is-done-requires
-is-done-requires c κs = search needs
-
 number-requires : tie.Need-number-requires
 number-requires c κs = search needs
 
@@ -24,8 +21,8 @@ same-length c = search needs
 
 returns : tie.Need-returns
 returns c =
-    let s = c .before .before .before .before .before .before .before .before .before .before .args in
-    fetch-refuses (s .card) (s .begun) (s .list .now) (s .n) (s .tree .now) _ _ (c .before .before .before .before .before .fetch .ensures) _ (c .before .before .before .is-done .ensures) (c .before .before .if1 .taken) _ (c .before .number .ensures) _ (c .refuse .ensures)
+    let s = c .before .before .before .before .before .before .before .before .before .args in
+    fetch-refuses (s .card) (s .begun) (s .list .now) (s .n) (s .tree .now) _ _ (c .before .before .before .before .fetch .ensures) _ (c .before .before .number .ensures) (c .before .if1 .taken) _ (c .refuse .ensures)
 
 slice-aggregate-finish : tie.Need-slice-aggregate-finish
 slice-aggregate-finish c = search needs
@@ -33,8 +30,8 @@ slice-aggregate-finish c = search needs
 finish-requires : tie.Need-finish-requires
 finish-requires c κs = search needs
 
-number-requires-2 : tie.Need-number-requires-2
-number-requires-2 c κs = search needs
+number-of-requires : tie.Need-number-of-requires
+number-of-requires c κs = search needs
 
 refuse-requires-2 : tie.Need-refuse-requires-2
 refuse-requires-2 c κs = search needs
@@ -45,7 +42,7 @@ same-length-2 c = search needs
 returns-2 : tie.Need-returns-2
 returns-2 c =
     let s = c .before .before .before .before .before .before .before .before .before .before .before .before .before .before .args in
-    finish-refuses (s .card) (s .begun) (s .list .now) (s .n) (s .tree .now) _ _ (c .before .before .before .before .before .before .before .before .before .fetch .ensures) _ (c .before .before .before .before .before .before .before .is-done .ensures) (c .before .before .before .before .before .before .if1 .left) _ _ (c .before .before .before .before .finish .ensures) _ (c .before .before .number2 .ensures) (c .before .if2 .taken) _ (c .refuse2 .ensures)
+    finish-refuses (s .card) (s .begun) (s .list .now) (s .n) (s .tree .now) _ _ (c .before .before .before .before .before .before .before .before .before .fetch .ensures) _ (c .before .before .before .before .before .before .before .number .ensures) (c .before .before .before .before .before .before .if1 .left) _ _ (c .before .before .before .before .finish .ensures) _ (c .before .before .number-of .ensures) (c .before .if2 .taken) _ (c .refuse2 .ensures)
 
 slice-aggregate-store : tie.Need-slice-aggregate-store
 slice-aggregate-store c = search needs
@@ -59,7 +56,7 @@ same-length-3 c = search needs
 returns-3 : tie.Need-returns-3
 returns-3 c =
     let s = c .before .before .before .before .before .before .before .before .before .before .before .before .before .before .before .before .before .before .args in
-    all-done (s .card) (s .begun) (s .list .now) (s .n) (s .tree .now) _ _ (c .before .before .before .before .before .before .before .before .before .before .before .before .before .fetch .ensures) _ (c .before .before .before .before .before .before .before .before .before .before .before .is-done .ensures) (c .before .before .before .before .before .before .before .before .before .before .if1 .left) _ _ (c .before .before .before .before .before .before .before .before .finish .ensures) _ (c .before .before .before .before .before .before .number2 .ensures) (c .before .before .before .before .before .if2 .left) (search needs) _ _ (c .before .before .store .ensures)
+    all-done (s .card) (s .begun) (s .list .now) (s .n) (s .tree .now) _ _ (c .before .before .before .before .before .before .before .before .before .before .before .before .before .fetch .ensures) _ (c .before .before .before .before .before .before .before .before .before .before .before .number .ensures) (c .before .before .before .before .before .before .before .before .before .before .if1 .left) _ _ (c .before .before .before .before .before .before .before .before .finish .ensures) _ (c .before .before .before .before .before .before .number-of .ensures) (c .before .before .before .before .before .if2 .left) (search needs) _ _ (c .before .before .store .ensures)
 
 pub carry-spec : {M : Type 1} → statement M
 carry-spec =
@@ -67,14 +64,13 @@ carry-spec =
     (tie.spec
     slice-aggregate-fetch
     fetch-requires
-    is-done-requires
     number-requires
     refuse-requires
     same-length
     returns
     slice-aggregate-finish
     finish-requires
-    number-requires-2
+    number-of-requires
     refuse-requires-2
     same-length-2
     returns-2

@@ -7,7 +7,7 @@ use lib.ListN.{length, take}
 use lib.Seq.{length-take-le}
 use Rattle.gather.proofs.RootLaws.{length-mapped}
 use Rattle.frames.proofs.TakeLaws.{takes-within, takes-room}
-use Rattle.sitting.proofs.FeedLaws.{Feeding, feeding-starts, feeding-room}
+use Rattle.output.proofs.FeedLaws.{Feeding, feeding-starts, feeding-room}
 use Rattle.sitting.proofs.TurnLaws.{room-left, turn-takes, turn-open, turn-ended, feeding-ends}
 use Rattle.sitting.proofs.feeding.feed.Statement.{statement}
 use Rattle.sitting.proofs.feeding.feed.Tie as tie

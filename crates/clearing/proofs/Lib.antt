@@ -1,0 +1,2 @@
+-- The laws of a record found and cleared.
+pub mod RemovalLaws

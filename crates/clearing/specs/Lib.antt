@@ -1,0 +1,2 @@
+-- What a removal does to a way.
+pub mod Removal

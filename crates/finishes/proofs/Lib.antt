@@ -1,0 +1,2 @@
+-- The laws of a finish on the card's parts.
+mod RequestLaws

@@ -1,0 +1,2 @@
+-- What a reader must believe of the card that a call goes on with.
+pub mod Held

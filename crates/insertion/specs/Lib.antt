@@ -1,0 +1,2 @@
+-- What a reader must believe of an Insert's stores.
+pub mod Store

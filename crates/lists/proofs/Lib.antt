@@ -1,0 +1,3 @@
+-- The laws of bucket lists that crates above cite.
+pub mod Naming
+pub mod ListLaws

@@ -1,0 +1,2 @@
+-- What a reader must believe of bucket lists.
+pub mod BucketList

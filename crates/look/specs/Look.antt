@@ -1,0 +1,64 @@
+-- The look at what a finish fetched: when that is Damaged, what it leaves in the scratches of the work, and what it tells.
+-- Assumes nothing.
+use Prim.Native.Nat.{ℕ, _+_, _*_, _-_, _≤_, _<_}
+use mathlib.Core.Bool.{Bool}
+use mathlib.Core.List.{List}
+use mathlib.Core.Path.{_≡_}
+use lib.ListN.{length}
+use Rattle.record.specs.declared.Leaf.{Leaf}
+use Rattle.record.specs.declared.Record.{Record}
+use Rattle.record.specs.Words.{records}
+use Rattle.path.specs.declared.sizes.Sizes.{Sizes}
+use Rattle.path.specs.Sizes.{leavesOf}
+use Rattle.path.specs.Layout.{recordWords}
+use Rattle.gather.specs.Shown.{wayShown}
+use Rattle.sound.specs.Fetched.{pathFetched, firstFetched, secondFetched}
+use Rattle.damage.specs.Damaged.{pathDamaged, pairDamaged}
+use Rattle.judge.specs.BadParts.{stampOf}
+use Rattle.shown.specs.PathShown.{PathShown}
+use Rattle.shown.specs.PairShown.{belowFirst}
+use Rattle.settle.specs.Room.{Cut}
+use Rattle.look.specs.declared.Looked.{Looked}
+
+-- "Damaged", its first three clauses: those of what was fetched
+module _ (s : Sizes) (t : ℕ) (root : List Record) (least : Record) (ws : List ℕ) where
+  unfoldable pub pathBad : Leaf → Bool
+  pathBad q =
+      pathDamaged (s .h) (s .r) (stampOf t) least (pathFetched (s .h) (s .z) q ws) (wayShown (s .h) (s .z) (s .r) root ws 0)
+
+  unfoldable pub pairBad : Leaf → Leaf → Bool
+  pairBad first second =
+      pairDamaged (s .h) (s .r) (stampOf t) least (firstFetched (s .h) (s .z) first ws) (secondFetched (s .h) (s .z) second ws)
+      (wayShown (2 * s .h) (s .z) (s .r) root ws 0)
+
+-- ---- ExtractMin and Delete. What is asked: sizes and leaf in range, words that are not too short, and the scratches of the way
+-- and of its siblings
+pub record PathLookRoom (s : Sizes) (q : Leaf) (ws w sibs : List ℕ) : Type 0 where
+  pub sizes : Cut s
+  pub leaf : q .0 < leavesOf (s .h)
+  pub fetched : 4 * (s .h * (s .z + 1) + s .h) ≤ length ws
+  pub slots : length w ≡ 4 * (s .r + s .z * s .h)
+  pub siblings : length sibs ≡ 4 * s .h
+
+-- the way and its siblings are in the scratches; the words moved for the siblings, and the verdict
+pub record PathLooks
+    (s : Sizes) (t : ℕ) (root : List Record) (least : Record) (ws : List ℕ) (q : Leaf) (w sibs : List ℕ) (out : Looked) : Type 0 where
+  pub shown : PathShown s root ws w sibs (out .moved)
+  pub verdict : out .damaged ≡ pathBad s t root least ws q
+
+-- ---- Insert. What is asked, with the scratches of the first path's way and of its siblings
+pub record PairLookRoom (s : Sizes) (first second : Leaf) (ws w beside : List ℕ) : Type 0 where
+  pub sizes : Cut s
+  pub lower : first .0 < leavesOf (s .h)
+  pub upper : second .0 < leavesOf (s .h)
+  pub fetched : 4 * (2 * s .h * (s .z + 1) + 2 * (s .h - 1)) ≤ length ws
+  pub slots : length w ≡ 4 * (s .r + s .z * s .h)
+  pub siblings : length beside ≡ 4 * s .h
+
+-- the first path's way and its siblings are in the scratches; the words moved for both paths' siblings, and the verdict
+pub record PairLooks
+    (s : Sizes) (t : ℕ) (root : List Record) (least : Record) (ws : List ℕ) (first second : Leaf) (w beside : List ℕ) (out : Looked) : Type 0 where
+  pub way : records w ≡ wayShown (s .h) (s .z) (s .r) root ws 0
+  pub siblings : records beside ≡ belowFirst s ws 0
+  pub counted : out .moved ≡ 2 * (s .h - 1) * recordWords
+  pub verdict : out .damaged ≡ pairBad s t root least ws first second

@@ -1,0 +1,2 @@
+-- The work of Insert on its two paths.
+pub mod PairWork

@@ -1,0 +1,77 @@
+-- The work of Insert on its two paths: document 01, "Insert puts the record, with stamp t, into the lowest dummy slot of the
+-- root, then evicts the first path, then the second." Assumes nothing.
+use Prim.Native.Nat.{ℕ, _+_, _*_, _-_, _≤_}
+use mathlib.Core.Bool.{cond}
+use mathlib.Core.List.{List, _++_}
+use mathlib.Core.Path.{_≡_}
+use lib.Dec.{ltb, eqb}
+use lib.ListN.{length, set}
+use Rattle.record.specs.declared.Leaf.{Leaf}
+use Rattle.record.specs.declared.Record.{Record}
+use Rattle.record.specs.Standing.{isDummy}
+use Rattle.record.specs.Words.{records}
+use Rattle.path.specs.declared.sizes.Sizes.{Sizes}
+use Rattle.path.specs.Layout.{Contents}
+use Rattle.way.specs.Evict.{seek}
+use Rattle.least.specs.Least.{mendedAt}
+use Rattle.gather.specs.Shown.{siblingAt}
+use Rattle.mend.specs.Mended.{pathWords, MendRoom}
+use Rattle.work.specs.PathWork.{evicted, slotsAfter, pathBuckets, rootAfter, leastAfter}
+
+-- "puts the record .. into the lowest dummy slot of the root": the first r places of its way. A root without one is
+-- refused at begin (10).
+unfoldable pub seated : ℕ → Record → List Record → List Record
+seated r new way = cond (ltb (seek isDummy r way) r) (set way (seek isDummy r way) new) way
+
+-- "then evicts the first path, then the second". The paths share the root alone, so the first path's least records may be
+-- worked out before the second is evicted.
+module _ (s : Sizes) (first second : Leaf) (new : Record) (beside₁ beside₂ : ℕ → Record) (way slots₂ : List Record) where
+  -- the first way, with the record in its root
+  abbrev pub firstWay : List Record
+  firstWay = seated (s .r) new way
+
+  abbrev pub firstBuckets : List Contents
+  firstBuckets = pathBuckets s first beside₁ firstWay
+
+  -- the second: what the first left in the root, then the second path's slots
+  abbrev pub secondWay : List Record
+  secondWay = rootAfter s first beside₁ firstWay ++ slots₂
+
+  -- the sibling of the second path's bucket at level 1 is the first path's
+  abbrev pub topFirst : Record
+  topFirst = mendedAt (s .h) first (slotsAfter s first beside₁ firstWay) beside₁ 1 .least
+
+  abbrev pub secondBeside : ℕ → Record
+  secondBeside d = cond (eqb d 1) topFirst (beside₂ d)
+
+  abbrev pub secondBuckets : List Contents
+  secondBuckets = pathBuckets s second secondBeside secondWay
+
+-- the siblings of an Insert's first path from level 2 on, behind both paths' whole buckets; and of its second, behind these
+abbrev pub firstSiblings : Sizes → List ℕ → ℕ → Record
+firstSiblings s ws d = siblingAt (s .z) ws (2 * s .h) (d - 2)
+
+abbrev pub secondSiblings : Sizes → List ℕ → ℕ → Record
+secondSiblings s ws d = siblingAt (s .z) ws (2 * s .h) (s .h - 1 + (d - 2))
+
+-- what the work on an Insert's two paths leaves in the scratches of the way and of each path's buckets, and its answer
+pub record PairWorked
+    (s : Sizes) (first second : Leaf) (new : Record) (beside₁ beside₂ : ℕ → Record) (way slots₂ : List Record)
+    (w path₁ path₂ : List ℕ) (x : Record) : Type 0 where
+  pub after :
+      records w
+      ≡ evicted s second (secondBeside s first second new beside₁ beside₂ way slots₂)
+      (secondWay s first second new beside₁ beside₂ way slots₂)
+  pub firstWords : path₁ ≡ pathWords (firstBuckets s first second new beside₁ beside₂ way slots₂)
+  pub secondWords : path₂ ≡ pathWords (secondBuckets s first second new beside₁ beside₂ way slots₂)
+  pub least :
+      x
+      ≡ leastAfter s second (secondBeside s first second new beside₁ beside₂ way slots₂)
+      (secondWay s first second new beside₁ beside₂ way slots₂)
+
+-- what is asked: the room of one path for each, and the fetched words of both
+pub record PairRoom (s : Sizes) (first second : Leaf) (path₁ path₂ w beside words : List ℕ) : Type 0 where
+  pub some : 1 ≤ s .h
+  pub one : MendRoom s first path₁ w beside
+  pub two : MendRoom s second path₂ w beside
+  pub fetched : 4 * (2 * s .h * (s .z + 1) + 2 * (s .h - 1)) ≤ length words

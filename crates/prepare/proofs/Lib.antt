@@ -1,0 +1,2 @@
+-- The laws of an Insert that is worked out.
+pub mod PreparedLaws

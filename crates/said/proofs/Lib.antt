@@ -1,0 +1,2 @@
+-- The laws of an answer of the card, printed, that crates above cite.
+pub mod SaidLaws

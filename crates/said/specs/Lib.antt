@@ -1,0 +1,2 @@
+-- What a reader must believe of an answer of the card, printed.
+pub mod Said

@@ -1,0 +1,30 @@
+use borrow.Author.Needs.{needs}
+use mathlib.Core.Bool.{true, false}
+use mathlib.Core.Path.{_≡_, sym, _∙_}
+use Rattle.judge.specs.BadParts.{badParts}
+use Rattle.settle.specs.Settled.{judged}
+use Rattle.settle.proofs.judged.Statement.{statement}
+use Rattle.settle.proofs.judged.Tie as tie
+
+comes-out-bad-requires : tie.Need-comes-out-bad-requires
+comes-out-bad-requires c κs = search needs
+
+unsettled-requires : tie.Need-unsettled-requires
+unsettled-requires c κs = search needs
+
+returns : tie.Need-returns
+unfolding judged
+returns c =
+    let s = c .before .before .before .before .before .args in
+    let b : badParts (s .sizes) (s .t) (s .next .c) (s .next .root) (s .next .least) ≡ true = sym (c .before .before .comes-out-bad .ensures) ∙ c .before .if1 .taken in
+    c .unsettled .ensures ∙ rw b
+
+returns-2 : tie.Need-returns-2
+unfolding judged
+returns-2 c =
+    let s = c .before .before .before .before .args in
+    let b : badParts (s .sizes) (s .t) (s .next .c) (s .next .root) (s .next .least) ≡ false = sym (c .before .comes-out-bad .ensures) ∙ c .if1 .left in
+    rw b
+
+pub judged-spec : {M : Type 1} → statement M
+judged-spec = tie.close (tie.spec comes-out-bad-requires unsettled-requires returns returns-2)

@@ -1,0 +1,50 @@
+-- What a sound record is, and what clause 1 tells of one level. Assumes nothing.
+use Prim.Native.Nat.{ℕ, zero, suc, _+_, _-_, _≤_, _<_}
+use mathlib.Core.Bool.{true, and-eq-true-iff}
+use mathlib.Core.List.{_∷_, List·Memᴰ, List·Memᴰ·head, List·Memᴰ·tail}
+use mathlib.Core.Logic.{_⊎_, inl, inr}
+use mathlib.Core.Path.{_≡_}
+use mathlib.Mathlib.Data.Bool.Basic.{dichotomy}
+use native.Mathlib.Decide.{decLe}
+use native.Mathlib.Omega.{arith}
+use Rattle.record.specs.declared.Leaf.{Leaf}
+use Rattle.record.specs.declared.Bucket.{Bucket}
+use Rattle.record.specs.declared.Stamp.{Stamp}
+use Rattle.record.specs.declared.Record.{Record}
+use Rattle.record.specs.Standing.{dummy, isDummy, isProper}
+use Rattle.record.proofs.StandingLaws.{dummy-is}
+use Rattle.record.proofs.ManyLaws.{every-each}
+use Rattle.path.specs.Sizes.{leavesOf}
+use Rattle.path.specs.Path.{pathBucket, siblingOf, holds, upFrom}
+use Rattle.path.specs.Layout.{Contents}
+use Rattle.sound.specs.Sound.{sound, pathSound, siblingsSound}
+
+-- a sound record is the dummy, or proper and in place
+pub sound-cases : (h : ℕ) (next : Stamp) (d : ℕ) (b : Bucket) (r : Record) → sound h next d b r ≡ true
+    → (r ≡ dummy) ⊎ ((isProper (leavesOf h) next r ≡ true) × (holds h (r .label) d b ≡ true))
+unfolding sound
+sound-cases h next d b r s = elim (dichotomy (isDummy r)) [
+  | inl f ↦ inr (and-eq-true-iff _ _ .0 (rw f at s))
+  | inr t ↦ inl (dummy-is r t)
+]
+
+-- a level is among those that follow each other
+pub level-in : (a n d : ℕ) → a ≤ d → d < a + n → List·Memᴰ d (upFrom a n)
+unfolding upFrom
+level-in a zero d l m = absurd (omega arith)
+level-in a (suc n) d l m = elim (decLe d a) [
+  | yes k ↦ let e : d ≡ a = omega arith in List·Memᴰ·head e
+  | no k ↦ List·Memᴰ·tail (level-in (suc a) n d (omega arith) (omega arith))
+]
+
+-- so a clause that holds of all levels holds of each
+module _ (h : ℕ) (q : Leaf) (shown : ℕ → Contents) (beside : ℕ → Record) (d : ℕ) (some : 1 ≤ d) (most : d ≤ h) where
+  pub bucket-sound-at : (next : Stamp) → pathSound h q shown beside next ≡ true
+      → {x : Record} → List·Memᴰ x (shown d .least ∷ shown d .slots) → sound h next d (pathBucket h q d) x ≡ true
+  unfolding pathSound
+  bucket-sound-at next s m = every-each _ (every-each _ s (level-in 1 h d some (omega arith))) m
+
+  pub sibling-sound-at : (next : Stamp) (from : ℕ) → from ≤ d → siblingsSound h q shown beside next from ≡ true
+      → sound h next d (siblingOf (pathBucket h q d)) (beside d) ≡ true
+  unfolding siblingsSound
+  sibling-sound-at next from l s = every-each _ s (level-in from (suc h - from) d l (omega arith))

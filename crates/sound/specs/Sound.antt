@@ -1,0 +1,36 @@
+-- Clause 1 of Damaged: document 01, "a fetched slot or least record is neither the dummy nor a proper record whose path holds
+-- that bucket". It is a Bool that computes, over what was fetched for one path: `shown d` is the path's bucket at level d,
+-- `beside d` the least record of the sibling there. Assumes nothing.
+use Prim.Native.Nat.{ℕ, suc, _-_}
+use mathlib.Core.Bool.{Bool, _&&_, _||_}
+use mathlib.Core.List.{_∷_}
+use Rattle.record.specs.declared.Leaf.{Leaf}
+use Rattle.record.specs.declared.Bucket.{Bucket}
+use Rattle.record.specs.declared.Stamp.{Stamp}
+use Rattle.record.specs.declared.Record.{Record}
+use Rattle.record.specs.Standing.{isDummy, isProper}
+use Rattle.record.specs.Many.{every}
+use Rattle.path.specs.Sizes.{leavesOf}
+use Rattle.path.specs.Path.{pathBucket, siblingOf, holds, upFrom}
+use Rattle.path.specs.Layout.{Contents}
+use Rattle.sound.specs.Fetched.{Fetched}
+
+-- "neither the dummy nor a proper record whose path holds that bucket", denied: what may stand in bucket b at level d
+unfoldable pub sound : ℕ → Stamp → ℕ → Bucket → Record → Bool
+sound h next d b r = isDummy r || (isProper (leavesOf h) next r && holds h (r .label) d b)
+
+module _ (h : ℕ) (q : Leaf) (shown : ℕ → Contents) (beside : ℕ → Record) where
+  -- every fetched slot and least record is sound; siblings are fetched from level `from` on
+  unfoldable pub pathSound : Stamp → Bool
+  pathSound next =
+      every (λ d. every (sound h next d (pathBucket h q d)) (shown d .least ∷ shown d .slots)) (upFrom 1 h)
+
+  unfoldable pub siblingsSound : Stamp → ℕ → Bool
+  siblingsSound next from =
+      every (λ d. sound h next d (siblingOf (pathBucket h q d)) (beside d)) (upFrom from (suc h - from))
+
+module _ (h : ℕ) (next : Stamp) (p : Fetched) where
+  -- clause 1 for one path, whose siblings were fetched from level `from` on
+  abbrev pub allSound : ℕ → Bool
+  allSound from =
+      pathSound h (p .leaf) (p .shown) (p .beside) next && siblingsSound h (p .leaf) (p .shown) (p .beside) next from

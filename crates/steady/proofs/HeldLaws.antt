@@ -1,0 +1,143 @@
+-- A desk that holds a queue: a round on its card, `min`, and the tree's words at the head of what is lent. Assumes nothing.
+use Prim.Native.Nat.{ℕ, zero, suc}
+use mathlib.Core.Bool.{true, false}
+use mathlib.Core.List.{List, _++_}
+use mathlib.Core.Path.{_≡_, refl, sym, ap, _∙_}
+use native.Mathlib.Omega.{arith}
+use lib.ListN.{length, length-append, take-append-drop}
+use lib.Seq.{take-at}
+use borrow.Author.Tests.{ne-eqb}
+use Rattle.path.specs.Sizes.{inRange}
+use Rattle.path.specs.Layout.{treeWords}
+use Rattle.path.proofs.SizesLaws.{tree-range}
+use Rattle.lists.specs.BucketList.{BucketList}
+use Rattle.refusal.specs.Refusal.{firstGiven}
+use Rattle.settle.specs.Left.{Left}
+use Rattle.copies.specs.Copy.{fetched}
+use Rattle.rack.specs.Refusals.{afterwards}
+use Rattle.card.specs.declared.Card.{Card}
+use Rattle.card.specs.declared.Done.{Done}
+use Rattle.card.specs.declared.Answer.the-variants.{Refused}
+use Rattle.request.specs.declared.Waiting.{Waiting}
+use Rattle.request.specs.Tables.{waits}
+use Rattle.card.specs.Tables.{requestTable}
+use Rattle.card.specs.Calls.{withWaiting, listOf}
+use Rattle.card.specs.Answers.{numberOf, refused, orRefused}
+use Rattle.card.specs.Finish.{leftBy, cardLeft, finished}
+use Rattle.card.proofs.CallLaws.{same-list}
+use Rattle.served.specs.Ready.{Ready}
+use Rattle.served.specs.LiveAfter.{liveAfter}
+use Rattle.served.proofs.CallLaws.{begin-ready}
+use Rattle.served.proofs.FinishedLaws.{WordKey, finished-card}
+use Rattle.rounds.specs.Round.{wordPlaces, roundRefusal, roundDone, roundTree}
+use Rattle.honest.proofs.RoundLaws.{round-number, round-ready}
+use Rattle.demands.specs.Queue.{Queue, reply, next}
+use Rattle.demands.specs.Says.{asks, says}
+use Rattle.demands.proofs.AnswerLaws.{queueOf, finish-says, finish-numbered, next-events, next-taken}
+use Rattle.steps.specs.declared.Desk.{Desk}
+use Rattle.steps.specs.Step.{wordsOf, usedOf, told, kept, head, rest, played}
+use Rattle.steady.specs.Steady.{Holds}
+
+-- the words of a tree that stands at the head of what is lent
+pub own-head : (desk : Desk) (tree rest : List ℕ) → inRange (desk .card .sizes) ≡ true
+    → length tree ≡ treeWords (desk .card .sizes .h) (desk .card .sizes .z) → head desk (tree ++ rest) ≡ tree
+unfolding wordsOf
+own-head desk tree rest e n =
+    let range = tree-range (desk .card .sizes) e in
+    let used : usedOf (desk .card .sizes .h) (desk .card .sizes .z) (length (tree ++ rest)) ≡ length tree =
+    rw (range, length-append tree rest, ← n) (omega arith) in
+    rw used (take-at tree rest (length tree) refl)
+
+-- what a refusal leaves is what was
+given : {A : Type 0} (n : ℕ) (done before : A) → (n ≡ 0 → ⊥) → afterwards n done before ≡ before
+given zero done before h = absurd (h refl)
+given (suc n) done before h = refl
+
+-- a card whose finish is done waits for nothing
+left-idle : (k : Card) (l : Left) → waits (cardLeft k l .waiting) ≡ false
+unfolding waits
+left-idle k l = refl
+
+module _ (desk : Desk) (tree : List ℕ) (q : Queue) (h : Holds desk tree q) where
+  abbrev k : Card
+  k = desk .card
+
+  -- the desk that an answer hands back, where the card is as it was
+  pub own-desk : record { sized = true; card = k } ≡ desk
+  own-desk = λ i. record { sized = sym (h .sized) i; card = k }
+
+  pub own-queue : queueOf (h .live) (k .t) ≡ q
+  own-queue = λ i. record { events = h .events i; taken = h .taken i }
+
+  module _ (w : Waiting) (word : WordKey w) (some : waits w ≡ true) where
+    abbrev number : ℕ
+    number = firstGiven (requestTable k w)
+
+    abbrev out : Done
+    out = roundDone k w (head desk tree)
+
+    abbrev after : List ℕ
+    after = roundTree k w (head desk tree)
+
+    round-is : roundRefusal k w (head desk tree) ≡ number
+    round-is = round-number k (head desk tree) (h .live) (h .ready) (h .idle) w word some
+
+    -- ---- refused
+    module _ (some-number : number ≡ 0 → ⊥) where
+      refused-done : out ≡ refused k number
+      unfolding roundDone orRefused
+      refused-done = rw (round-is, ne-eqb number 0 some-number)
+
+      same-tree : after ≡ head desk tree
+      unfolding roundTree
+      same-tree = rw round-is (given number _ (head desk tree) some-number)
+
+      pub round-refused : played desk tree w ≡ record { turn = kept desk (Refused number); tree = tree }
+      round-refused =
+          let turn : told out ≡ kept desk (Refused number) = ap told refused-done ∙ ap (λ (d : Desk). kept d (Refused number)) own-desk in
+          let whole : after ++ rest desk tree ≡ tree = rw (same-tree, take-append-drop) in
+          λ i. record { turn = turn i; tree = whole i }
+
+    -- ---- answered
+    module _ (none : number ≡ 0) where
+      abbrev waiting : Card
+      waiting = withWaiting k w
+
+      ready : Ready waiting (head desk tree) (h .live)
+      ready = begin-ready k (head desk tree) (h .live) w (h .ready) none
+
+      abbrev shown : BucketList → List ℕ
+      shown l = fetched (k .sizes .z) (head desk tree) l wordPlaces
+
+      finished-done : out ≡ finished waiting (shown (listOf waiting w))
+      unfolding roundDone orRefused
+      finished-done =
+          rw (round-is, none) (ap (λ (l : BucketList). finished waiting (shown l)) (same-list k waiting w refl refl))
+
+      card-left : out .card ≡ cardLeft waiting (leftBy waiting w (shown (listOf waiting w)))
+      card-left = ap (λ (d : Done). d .card) finished-done ∙ finished-card waiting w _ some
+
+      pub round-says : says (out .answer) ≡ reply q (asks w)
+      round-says =
+          ap (λ (d : Done). says (d .answer)) finished-done ∙ finish-says waiting (head desk tree) (h .live) ready wordPlaces some
+          ∙ ap (λ (p : Queue). reply p (asks w)) own-queue
+
+      pub round-numbered : numberOf (out .answer) ≡ 0
+      round-numbered =
+          ap (λ (d : Done). numberOf (d .answer)) finished-done ∙ finish-numbered waiting (head desk tree) (h .live) ready wordPlaces some
+
+      again : Ready (out .card) after (liveAfter (k .t) (h .live) w)
+      again = round-ready k (head desk tree) (h .live) (h .ready) (h .idle) w word some none
+
+      pub round-holds : Holds (record { sized = true; card = out .card }) (after ++ rest desk tree) (next q (asks w))
+      round-holds =
+          record {
+            sized = refl;
+            live = liveAfter (k .t) (h .live) w;
+            ready = rw (own-head (record { sized = true; card = out .card }) after (rest desk tree) (again .heap .sizes) (again .heap .words)) again;
+            idle = rw card-left (left-idle waiting (leftBy waiting w (shown (listOf waiting w))));
+            events = next-events waiting (head desk tree) (h .live) ready ∙ ap (λ (p : Queue). next p (asks w) .events) own-queue;
+            taken =
+                ap (λ (c : Card). c .t) card-left ∙ next-taken waiting (head desk tree) (h .live) ready some
+                ∙ ap (λ (p : Queue). next p (asks w) .taken) own-queue;
+          }

@@ -1,0 +1,186 @@
+-- One line on a desk that holds a queue, or none: what it comes to, and what the desk holds then. Assumes nothing.
+use Prim.Native.Nat.{ℕ, _≤_}
+use mathlib.Core.Bool.{Bool, true, false, cond}
+use mathlib.Core.List.{List, []}
+use mathlib.Core.Logic.{inl, inr}
+use mathlib.Core.Option.{Option, none, some}
+use mathlib.Core.Path.{_≡_, refl, sym, ap, _∙_, subst}
+use mathlib.Mathlib.Data.Bool.Basic.{dichotomy}
+use native.Mathlib.Omega.{arith}
+use lib.Dec.{eqb}
+use lib.ListN.{length, drop}
+use borrow.Author.Tests.{eqb-true, eqb-false, eq-eqb, ne-eqb}
+use Rattle.record.specs.Standing.{dummyKey}
+use Rattle.path.specs.declared.sizes.Sizes.{Sizes}
+use Rattle.path.specs.Sizes.{sizesOf, inRange}
+use Rattle.path.specs.Layout.{freshTree}
+use Rattle.refusal.specs.Refusal.{firstGiven}
+use Rattle.card.specs.declared.Card.{Card}
+use Rattle.card.specs.declared.Answer.the-variants.{Least, Refused}
+use Rattle.request.specs.declared.Waiting.{Waiting}
+use Rattle.request.specs.declared.Waiting.the-variants.{Insert as AskInsert, Extract as AskExtract, Delete as AskDelete}
+use Rattle.request.specs.Tables.{waits}
+use Rattle.card.specs.Tables.{requestTable}
+use Rattle.card.specs.Answers.{refused, orRefused}
+use Rattle.card.specs.Calls.{freshCard, minTable, foundMin}
+use Rattle.served.proofs.CallLaws.{start-ready, ready-card}
+use Rattle.served.proofs.FinishedLaws.{WordKey}
+use Rattle.honest.proofs.RoundLaws.{request-own, own-range}
+use Rattle.demands.specs.Queue.{Queue, emptyQueue, leastEvent, reply, next, told as toldOf}
+use Rattle.demands.specs.Says.{asks}
+use Rattle.demands.proofs.AnswerLaws.{least-told}
+use Rattle.lines.specs.declared.Line.{Line}
+use Rattle.lines.specs.declared.Line.the-variants.{Unreadable, Size, Insert, Min, Extract, Delete}
+use Rattle.steps.specs.declared.Desk.{Desk}
+use Rattle.steps.specs.declared.Turn.{Turn}
+use Rattle.steps.specs.Step.{Left, nothing, unread as question, told, kept, fresh, sizedTo, tooLarge, wordsOf, head, played, askedFor, leastOf, minOf, stepOf}
+use Rattle.steady.specs.Steady.{wants, Holds, Keeps, Unheard, unreadable, early, large, Printed, Turns, unread, refused as refuses, started, answered}
+use Rattle.steady.proofs.HeldLaws.{own-head, own-desk, round-refused, round-says, round-numbered, round-holds}
+
+-- a line played: what it comes to, and that the desk keeps what is then held
+pub record Played (desk : Desk) (tree : List ℕ) (q : Option Queue) (line : Line) (l : Left) : Type 0 where
+  pub held : Option Queue
+  pub turns : Turns desk tree q line l held
+  pub keeps : Keeps (l .turn .desk) (l .tree) held
+
+-- ---- `size`
+module _ (desk : Desk) (tree : List ℕ) (q : Option Queue) (k : Keeps desk tree q) where
+  stays : {line : Line} {l : Left} → Unheard (length tree) q line → l ≡ nothing desk tree → Played desk tree q line l
+  stays u e = record { held = q; turns = unread u e; keeps = rw e k }
+
+  module _ (h z r t : ℕ) where
+    abbrev s : Sizes
+    s = sizesOf h z r t
+
+    fresh-keeps : inRange s ≡ true → Keeps (fresh desk tree s .turn .desk) (fresh desk tree s .tree) (some emptyQueue)
+    unfolding waits
+    fresh-keeps e =
+        let r = start-ready s e in
+        record {
+          sized = refl;
+          live = [];
+          ready = rw (own-head (record { sized = true; card = freshCard s }) (freshTree h z) (drop (wordsOf h z) tree) e (r .heap .words)) r;
+          idle = refl;
+          events = refl;
+          taken = refl;
+        }
+
+    pub size-line : Played desk tree q (Size h z r t) (sizedTo desk tree s)
+    unfolding sizedTo
+    size-line = elim (dichotomy (inRange s)) [
+      | inl f ↦ rw f (record { held = q; turns = refuses 1 refl refl; keeps = k })
+      | inr e ↦ elim (dichotomy (tooLarge (length tree) s)) [
+        | inl f ↦ rw (e, f) (record { held = some emptyQueue; turns = started h z r t refl refl; keeps = fresh-keeps e })
+        | inr l ↦ rw (e, l) (stays (large l) refl)
+      ]
+    ]
+
+-- ---- a line that asks something of the card
+module _ (desk : Desk) (tree : List ℕ) (q : Queue) (h : Holds desk tree q) where
+  asked-played : (w : Waiting) → played desk tree w ≡ askedFor desk tree w
+  unfolding askedFor
+  asked-played w = ap (λ (b : Bool). cond b (played desk tree w) (nothing desk tree)) (sym (h .sized))
+
+  -- refused by a rule of its own, or answered
+  played-line : (line : Line) (w : Waiting) → WordKey w → waits w ≡ true → wants line ≡ asks w
+      → ((n : ℕ) → (4 ≤ n) × (n ≤ 10) → Printed line n)
+      → Played desk tree (some q) line (played desk tree w)
+  played-line line w word busy same printed = elim (dichotomy (eqb (firstGiven (requestTable (desk .card) w)) 0)) [
+    | inl f ↦
+        let n = eqb-false _ _ f in
+        let e = round-refused desk tree q h w word busy n in
+        record {
+          held = some q;
+          turns = refuses _ (printed _ (own-range _ (request-own (desk .card) w) n)) e;
+          keeps = subst (λ (l : Left). Keeps (l .turn .desk) (l .tree) (some q)) (sym e) h;
+        }
+    | inr e ↦
+        let n = eqb-true _ _ e in
+        record {
+          held = some (next q (wants line));
+          turns = answered q _ refl refl (round-numbered desk tree q h w word busy n) (rw same (round-says desk tree q h w word busy n));
+          keeps = rw same (round-holds desk tree q h w word busy n);
+        }
+  ]
+
+  asked-line : (line : Line) (w : Waiting) → WordKey w → waits w ≡ true → wants line ≡ asks w
+      → ((n : ℕ) → (4 ≤ n) × (n ≤ 10) → Printed line n)
+      → Played desk tree (some q) line (askedFor desk tree w)
+  asked-line line w word busy same printed = subst (Played desk tree (some q) line) (asked-played w) (played-line line w word busy same printed)
+
+  -- ---- `min`
+  abbrev k : Card
+  k = desk .card
+
+  min-told : minOf desk ≡ told (leastOf k)
+  unfolding minOf
+  min-told = ap (λ (b : Bool). cond b (told (leastOf k)) (question desk)) (h .sized)
+
+  none-least : k .c ≡ 0 → leastOf k ≡ refused k 8
+  unfolding minTable firstGiven orRefused
+  none-least e = rw (ready-card k (head desk tree) (h .live) (h .ready), h .idle, eq-eqb (k .c) 0 e)
+
+  some-least : (k .c ≡ 0 → ⊥) → leastOf k ≡ foundMin k
+  unfolding minTable firstGiven orRefused
+  some-least n = rw (ready-card k (head desk tree) (h .live) (h .ready), h .idle, ne-eqb (k .c) 0 n)
+
+  min-empty : k .c ≡ 0 → minOf desk ≡ kept desk (Refused 8)
+  min-empty e = min-told ∙ ap told (none-least e) ∙ ap (λ (d : Desk). kept d (Refused 8)) (own-desk desk tree q h)
+
+  min-found : (k .c ≡ 0 → ⊥) → minOf desk ≡ kept desk (Least (k .least))
+  min-found n = min-told ∙ ap told (some-least n) ∙ ap (λ (d : Desk). kept d (Least (k .least))) (own-desk desk tree q h)
+
+  min-line : Played desk tree (some q) Min (record { turn = minOf desk; tree = tree })
+  min-line = elim (dichotomy (eqb (k .c) 0)) [
+    | inl f ↦
+        let n = eqb-false _ _ f in
+        let e = min-found n in
+        record {
+          held = some q;
+          turns =
+              answered q (Least (k .least)) refl (ap (λ (t : Turn). t .reply) e) refl
+              (ap toldOf (sym (least-told k (head desk tree) (h .live) (h .ready) (omega (arith, n))) ∙ ap leastEvent (h .events)));
+          keeps = rw e h;
+        }
+    | inr t ↦
+        let e = min-empty (eqb-true _ _ t) in
+        record {
+          held = some q;
+          turns = refuses 8 refl (ap (λ (u : Turn). record { turn = u; tree = tree }) e);
+          keeps = rw e h;
+        }
+  ]
+
+-- an Insert's key is a 64-bit number
+abbrev pub WordLine : Line → Type 0
+WordLine Unreadable = Unit {0}
+WordLine (Size h z r t) = Unit {0}
+WordLine (Insert key value label first second) = key ≤ dummyKey
+WordLine Min = Unit {0}
+WordLine Extract = Unit {0}
+WordLine (Delete label stamp) = Unit {0}
+
+module _ (desk : Desk) (tree : List ℕ) where
+  pub held-line : (q : Queue) → Holds desk tree q → (line : Line) → WordLine line → Played desk tree (some q) line (stepOf desk line tree)
+  unfolding stepOf waits
+  held-line q h Unreadable word = stays desk tree (some q) h unreadable refl
+  held-line q h (Size height z r t) word = size-line desk tree (some q) h height z r t
+  held-line q h (Insert key value label first second) word =
+      asked-line desk tree q h (Insert key value label first second) (AskInsert key value label first second) word refl refl (λ n p. p)
+  held-line q h Min word = min-line desk tree q h
+  held-line q h Extract word = asked-line desk tree q h Extract AskExtract tt refl refl (λ n p. p)
+  held-line q h (Delete label stamp) word = asked-line desk tree q h (Delete label stamp) (AskDelete label stamp) tt refl refl (λ n p. p)
+
+  -- before any accepted `size`
+  early-line : desk .sized ≡ false → (line : Line) → Played desk tree none line (stepOf desk line tree)
+  unfolding stepOf askedFor minOf
+  early-line e Unreadable = stays desk tree none e unreadable refl
+  early-line e (Size height z r t) = size-line desk tree none e height z r t
+  early-line e (Insert key value label first second) = stays desk tree none e early (rw e)
+  early-line e Min = stays desk tree none e early (rw e)
+  early-line e Extract = stays desk tree none e early (rw e)
+  early-line e (Delete label stamp) = stays desk tree none e early (rw e)
+
+  pub one-line : (q : Option Queue) → Keeps desk tree q → (line : Line) → WordLine line → Played desk tree q line (stepOf desk line tree)
+  one-line none k line word = early-line k line
+  one-line (some q) k line word = held-line q k line word

@@ -1,0 +1,2 @@
+-- What a reader must believe of the desk beside the plain queue.
+pub mod Steady

@@ -1,0 +1,83 @@
+-- The desk beside the plain queue: document 01, "The desk program reads lines and plays both sides." Whatever lines come, each is
+-- answered as the queue answers it, or changes nothing. Proved as `steady` in proofs/SteadyLaws.antt. Assumes nothing.
+use Prim.Native.Nat.{ℕ, _≤_}
+use mathlib.Core.Bool.{true, false}
+use mathlib.Core.List.{List, [], _∷_, map}
+use mathlib.Core.Option.{Option, none, some}
+use mathlib.Core.Path.{_≡_}
+use lib.ListN.{length}
+use Rattle.record.specs.declared.Record.{Record}
+use Rattle.path.specs.Sizes.{sizesOf}
+use Rattle.request.specs.Tables.{waits}
+use Rattle.card.specs.declared.Answer.{Answer}
+use Rattle.card.specs.declared.Answer.the-variants.{Started, Refused}
+use Rattle.card.specs.Answers.{numberOf}
+use Rattle.served.specs.Ready.{Ready}
+use Rattle.demands.specs.Queue.{Queue, Request, insert, findMin, extractMin, delete, nothing as silence, emptyQueue, reply, next}
+use Rattle.demands.specs.Says.{refOf, eventOf, says}
+use Rattle.lines.specs.declared.Line.{Line}
+use Rattle.lines.specs.declared.Line.the-variants.{Unreadable, Size, Insert, Min, Extract, Delete}
+use Rattle.steps.specs.declared.Desk.{Desk}
+use Rattle.steps.specs.declared.Reply.the-variants.{Said}
+use Rattle.steps.specs.Step.{Left, nothing, kept, head, tooLarge, stepOf}
+
+-- what a line asks of the queue
+abbrev pub wants : Line → Request
+wants Unreadable = silence
+wants (Size h z r t) = silence
+wants (Insert key value label first second) = insert key value (label .0)
+wants Min = findMin
+wants Extract = extractMin
+wants (Delete label stamp) = delete (refOf label stamp)
+
+-- ---- between two lines
+-- the desk holds this queue: card and tree hold a good heap of its events, and no request waits
+pub record Holds (desk : Desk) (tree : List ℕ) (q : Queue) : Type 0 where
+  pub sized : desk .sized ≡ true
+  pub live : List Record
+  pub ready : Ready (desk .card) (head desk tree) live
+  pub idle : waits (desk .card .waiting) ≡ false
+  pub events : map eventOf live ≡ q .events
+  pub taken : desk .card .t ≡ q .taken
+
+-- and none before a `size` was accepted
+abbrev pub Keeps : Desk → List ℕ → Option Queue → Type 0
+Keeps desk tree none = desk .sized ≡ false
+Keeps desk tree (some q) = Holds desk tree q
+
+-- ---- one line
+-- "A line it can't read, .. one other than `size` before any accepted `size`, or a `size` within its ranges whose tree is over 8,192
+-- words" (or over what is lent)
+pub data Unheard (lent : ℕ) : Option Queue → Line → Type 0 where
+  unreadable : {q : Option Queue} → Unheard lent q Unreadable
+  early : {line : Line} → Unheard lent none line
+  large : {q : Option Queue} {h z r t : ℕ} → tooLarge lent (sizesOf h z r t) ≡ true → Unheard lent q (Size h z r t)
+
+-- the numbers that a desk can print: neither 2 nor 3, and none of 11 to 14
+abbrev pub Printed : Line → ℕ → Type 0
+Printed Unreadable n = ⊥
+Printed (Size h z r t) n = n ≡ 1
+Printed (Insert key value label first second) n = (4 ≤ n) × (n ≤ 10)
+Printed Min n = n ≡ 8
+Printed Extract n = (4 ≤ n) × (n ≤ 10)
+Printed (Delete label stamp) n = (4 ≤ n) × (n ≤ 10)
+
+module _ (desk : Desk) (tree : List ℕ) (q : Option Queue) (line : Line) (l : Left) where
+  -- what is left of it, and the queue that is held then
+  pub data Turns : Option Queue → Type 0 where
+    -- `?`, and nothing changes
+    unread : Unheard (length tree) q line → l ≡ nothing desk tree → Turns q
+    -- "A refusal prints its number", and nothing changes
+    refused : (n : ℕ) → Printed line n → l ≡ record { turn = kept desk (Refused n); tree = tree } → Turns q
+    -- "`size h Z R T` starts afresh"
+    started : (h z r t : ℕ) → line ≡ Size h z r t → l .turn .reply ≡ Said Started → Turns (some emptyQueue)
+    -- as the queue answers
+    answered : (p : Queue) (a : Answer) → q ≡ some p → l .turn .reply ≡ Said a → numberOf a ≡ 0 → says a ≡ reply p (wants line)
+        → Turns (some (next p (wants line)))
+
+-- ---- every list of lines
+pub data Sits : Desk → List ℕ → Option Queue → List Line → Type 0 where
+  ended : {desk : Desk} {tree : List ℕ} {q : Option Queue} → Keeps desk tree q → Sits desk tree q []
+  turned : {desk : Desk} {tree : List ℕ} {q p : Option Queue} {line : Line} {lines : List Line} → Keeps desk tree q
+      → Turns desk tree q line (stepOf desk line tree) p
+      → Sits (stepOf desk line tree .turn .desk) (stepOf desk line tree .tree) p lines → Sits desk tree q (line ∷ lines)

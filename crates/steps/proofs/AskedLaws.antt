@@ -1,0 +1,62 @@
+-- A line that asks something of the card: `?` on a desk that has no size, else what the round or FindMin comes to. Assumes nothing.
+use Prim.Native.Nat.{ℕ}
+use mathlib.Core.Bool.{Bool, true, false, not, cond}
+use mathlib.Core.List.{List, _++_}
+use mathlib.Core.Path.{_≡_, refl, sym, ap, _∙_}
+use lib.ListN.{length, take, drop}
+use borrow.Author.Tests.{not-true, not-false}
+use Rattle.refusal.specs.Refusal.{firstGiven}
+use Rattle.request.specs.declared.Waiting.{Waiting}
+use Rattle.card.specs.declared.Done.{Done}
+use Rattle.card.specs.Answers.{Answered}
+use Rattle.card.specs.Calls.{minTable, foundMin}
+use Rattle.lines.specs.declared.Line.{Line}
+use Rattle.lines.specs.declared.Line.the-variants.{Unreadable, Min}
+use Rattle.rounds.specs.Round.{Plays, roundDone, roundTree}
+use Rattle.rounds.proofs.RoundLaws.{comes-to}
+use Rattle.steps.specs.declared.Desk.{Desk}
+use Rattle.steps.specs.declared.Turn.{Turn}
+use Rattle.steps.specs.Step.{unread, told, usedOf, Left, nothing, played, askedFor, leastOf, minOf, stepOf, Steps}
+
+-- a step is known by what its line leaves
+pub steps-as : (desk : Desk) (line : Line) (tree after : List ℕ) (turn : Turn) (l : Left) → stepOf desk line tree ≡ l → turn ≡ l .turn → after ≡ l .tree
+    → Steps desk line tree after turn
+steps-as desk line tree after turn l own t a =
+    record { said = t ∙ sym (ap (λ (x : Left). x .turn) own); lent = a ∙ sym (ap (λ (x : Left). x .tree) own) }
+
+module _ (desk : Desk) (tree : List ℕ) where
+  pub unread-line : (turn : Turn) → turn ≡ unread desk → Steps desk Unreadable tree tree turn
+  unfolding stepOf
+  unread-line turn e = record { said = e; lent = refl }
+
+  pub min-line : (turn : Turn) → turn ≡ minOf desk → Steps desk Min tree tree turn
+  unfolding stepOf
+  min-line turn e = record { said = e; lent = refl }
+
+  -- a line that asks for this request
+  module _ (line : Line) (w : Waiting) (is : stepOf desk line tree ≡ askedFor desk tree w) where
+    pub not-sized : (turn : Turn) → not (desk .sized) ≡ true → turn ≡ unread desk → Steps desk line tree tree turn
+    unfolding askedFor
+    not-sized turn h e = steps-as desk line tree tree turn (nothing desk tree) (is ∙ rw (not-true (desk .sized) h)) e refl
+
+    pub was-asked :
+        (n : ℕ) (part after : List ℕ) (done : Done) (turn : Turn) → not (desk .sized) ≡ false
+        → n ≡ usedOf (desk .card .sizes .h) (desk .card .sizes .z) (length tree) → Plays (desk .card) w (take n tree) part done
+        → after ≡ part ++ drop n tree → turn ≡ told done → Steps desk line tree after turn
+    unfolding askedFor
+    was-asked n part after done turn h m p a e =
+        let c = comes-to (desk .card) w (take n tree) part done p in
+        steps-as desk line tree after turn (played desk tree w) (is ∙ rw (not-false (desk .sized) h))
+        (e ∙ ap told (c .0 ∙ ap (λ (x : ℕ). roundDone (desk .card) w (take x tree)) m))
+        (a ∙ ap (λ (x : List ℕ). x ++ drop n tree) (c .1) ∙ ap (λ (x : ℕ). roundTree (desk .card) w (take x tree) ++ drop x tree) m)
+
+-- FindMin
+module _ (desk : Desk) (turn : Turn) where
+  pub min-unsized : not (desk .sized) ≡ true → turn ≡ unread desk → turn ≡ minOf desk
+  unfolding minOf
+  min-unsized h e = e ∙ sym (ap (λ (x : Bool). cond x (told (leastOf (desk .card))) (unread desk)) (not-true (desk .sized) h))
+
+  pub min-sized : not (desk .sized) ≡ false → (done : Done) → Answered (desk .card) (firstGiven (minTable (desk .card))) (foundMin (desk .card)) done
+      → turn ≡ told done → turn ≡ minOf desk
+  unfolding minOf
+  min-sized h done a e = rw (not-false (desk .sized) h) (e ∙ ap told (a .whole))

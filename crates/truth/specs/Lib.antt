@@ -1,0 +1,2 @@
+-- Whether the least records of a path are true.
+pub mod Leasts

@@ -1,0 +1,2 @@
+-- The laws of the stores.
+pub mod StoreLaws

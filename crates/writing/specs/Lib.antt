@@ -1,0 +1,2 @@
+-- What a reader must believe of the stores.
+pub mod Stored
