@@ -1,6 +1,6 @@
 -- One line on a desk that holds a queue, or none: what it comes to, and what the desk holds then. Assumes nothing.
 use Prim.Native.Nat.{ℕ, _≤_}
-use mathlib.Core.Bool.{Bool, true, false, cond}
+use mathlib.Core.Bool.{Bool, true, false, cond, or-true}
 use mathlib.Core.List.{List, []}
 use mathlib.Core.Logic.{inl, inr}
 use mathlib.Core.Option.{Option, none, some}
@@ -34,7 +34,7 @@ use Rattle.lines.specs.declared.Line.the-variants.{Unreadable, Size, Insert, Mi
 use Rattle.steps.specs.declared.Desk.{Desk}
 use Rattle.steps.specs.declared.Turn.{Turn}
 use Rattle.steps.specs.Step.{Left, nothing, unread as question, told, kept, fresh, sizedTo, tooLarge, wordsOf, head, played, askedFor, leastOf, minOf, stepOf}
-use Rattle.steady.specs.Steady.{wants, Holds, Keeps, Unheard, unreadable, early, large, Printed, Turns, unread, refused as refuses, started, answered}
+use Rattle.steady.specs.Steady.{wants, Holds, Keeps, Unheard, unreadable, early, large, Printed, Turns, unread, refused as refuses, started, answered, sizedBefore}
 use Rattle.steady.proofs.HeldLaws.{own-head, own-desk, round-refused, round-says, round-numbered, round-holds}
 
 -- a line played: what it comes to, and that the desk keeps what is then held
@@ -68,9 +68,9 @@ module _ (desk : Desk) (tree : List ℕ) (q : Option Queue) (k : Keeps desk tree
     pub size-line : Played desk tree q (Size h z r t) (sizedTo desk tree s)
     unfolding sizedTo
     size-line = elim (dichotomy (inRange s)) [
-      | inl f ↦ rw f (record { held = q; turns = refuses 1 refl refl; keeps = k })
+      | inl f ↦ rw f (record { held = q; turns = refuses 1 (or-true (sizedBefore q)) refl refl; keeps = k })
       | inr e ↦ elim (dichotomy (tooLarge (length tree) s)) [
-        | inl f ↦ rw (e, f) (record { held = some emptyQueue; turns = started h z r t refl refl; keeps = fresh-keeps e })
+        | inl f ↦ rw (e, f) (record { held = some emptyQueue; turns = started h z r t refl refl refl; keeps = fresh-keeps e })
         | inr l ↦ rw (e, l) (stays (large l) refl)
       ]
     ]
@@ -91,7 +91,7 @@ module _ (desk : Desk) (tree : List ℕ) (q : Queue) (h : Holds desk tree q) whe
         let e = round-refused desk tree q h w word busy n in
         record {
           held = some q;
-          turns = refuses _ (printed _ (own-range _ (request-own (desk .card) w) n)) e;
+          turns = refuses _ refl (printed _ (own-range _ (request-own (desk .card) w) n)) e;
           keeps = subst (λ (l : Left). Keeps (l .turn .desk) (l .tree) (some q)) (sym e) h;
         }
     | inr e ↦
@@ -146,7 +146,7 @@ module _ (desk : Desk) (tree : List ℕ) (q : Queue) (h : Holds desk tree q) whe
         let e = min-empty (eqb-true _ _ t) in
         record {
           held = some q;
-          turns = refuses 8 refl (ap (λ (u : Turn). record { turn = u; tree = tree }) e);
+          turns = refuses 8 refl refl (ap (λ (u : Turn). record { turn = u; tree = tree }) e);
           keeps = rw e h;
         }
   ]
@@ -176,10 +176,10 @@ module _ (desk : Desk) (tree : List ℕ) where
   unfolding stepOf askedFor minOf
   early-line e Unreadable = stays desk tree none e unreadable refl
   early-line e (Size height z r t) = size-line desk tree none e height z r t
-  early-line e (Insert key value label first second) = stays desk tree none e early (rw e)
-  early-line e Min = stays desk tree none e early (rw e)
-  early-line e Extract = stays desk tree none e early (rw e)
-  early-line e (Delete label stamp) = stays desk tree none e early (rw e)
+  early-line e (Insert key value label first second) = stays desk tree none e (early refl) (rw e)
+  early-line e Min = stays desk tree none e (early refl) (rw e)
+  early-line e Extract = stays desk tree none e (early refl) (rw e)
+  early-line e (Delete label stamp) = stays desk tree none e (early refl) (rw e)
 
   pub one-line : (q : Option Queue) → Keeps desk tree q → (line : Line) → WordLine line → Played desk tree q line (stepOf desk line tree)
   one-line none k line word = early-line k line

@@ -1,7 +1,7 @@
 -- The desk beside the plain queue: document 01, "The desk program reads lines and plays both sides." Whatever lines come, each is
 -- answered as the queue answers it, or changes nothing. Proved as `steady` in proofs/SteadyLaws.antt. Assumes nothing.
 use Prim.Native.Nat.{ℕ, _≤_}
-use mathlib.Core.Bool.{true, false}
+use mathlib.Core.Bool.{Bool, true, false, _||_}
 use mathlib.Core.List.{List, [], _∷_, map}
 use mathlib.Core.Option.{Option, none, some}
 use mathlib.Core.Path.{_≡_}
@@ -46,11 +46,24 @@ Keeps desk tree none = desk .sized ≡ false
 Keeps desk tree (some q) = Holds desk tree q
 
 -- ---- one line
+abbrev pub isSize : Line → Bool
+isSize Unreadable = false
+isSize (Size h z r t) = true
+isSize (Insert key value label first second) = false
+isSize Min = false
+isSize Extract = false
+isSize (Delete label stamp) = false
+
+-- whether a `size` was accepted
+abbrev pub sizedBefore : Option Queue → Bool
+sizedBefore none = false
+sizedBefore (some q) = true
+
 -- "A line it can't read, .. one other than `size` before any accepted `size`, or a `size` within its ranges whose tree is over 8,192
 -- words" (or over what is lent)
 pub data Unheard (lent : ℕ) : Option Queue → Line → Type 0 where
   unreadable : {q : Option Queue} → Unheard lent q Unreadable
-  early : {line : Line} → Unheard lent none line
+  early : {line : Line} → isSize line ≡ false → Unheard lent none line
   large : {q : Option Queue} {h z r t : ℕ} → tooLarge lent (sizesOf h z r t) ≡ true → Unheard lent q (Size h z r t)
 
 -- the numbers that a desk can print: neither 2 nor 3, and none of 11 to 14
@@ -67,10 +80,11 @@ module _ (desk : Desk) (tree : List ℕ) (q : Option Queue) (line : Line) (l : L
   pub data Turns : Option Queue → Type 0 where
     -- `?`, and nothing changes
     unread : Unheard (length tree) q line → l ≡ nothing desk tree → Turns q
-    -- "A refusal prints its number", and nothing changes
-    refused : (n : ℕ) → Printed line n → l ≡ record { turn = kept desk (Refused n); tree = tree } → Turns q
-    -- "`size h Z R T` starts afresh"
-    started : (h z r t : ℕ) → line ≡ Size h z r t → l .turn .reply ≡ Said Started → Turns (some emptyQueue)
+    -- "A refusal prints its number", and nothing changes; before any accepted `size` only a `size` is refused so
+    refused : (n : ℕ) → (sizedBefore q || isSize line) ≡ true → Printed line n → l ≡ record { turn = kept desk (Refused n); tree = tree } → Turns q
+    -- "`size h Z R T` starts afresh", with these sizes
+    started : (h z r t : ℕ) → line ≡ Size h z r t → l .turn .desk .card .sizes ≡ sizesOf h z r t → l .turn .reply ≡ Said Started
+        → Turns (some emptyQueue)
     -- as the queue answers
     answered : (p : Queue) (a : Answer) → q ≡ some p → l .turn .reply ≡ Said a → numberOf a ≡ 0 → says a ≡ reply p (wants line)
         → Turns (some (next p (wants line)))
