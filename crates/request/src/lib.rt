@@ -129,7 +129,7 @@ fn why_delete(sizes: Sizes, t: u64, c: u64, label: Leaf, stamp: Stamp) -> u64
     0
 }
 
-// The number of the first refusal from 4 to 10 that a request meets, 0 for none.
+// For crates above: the number of the first refusal from 4 to 10 that a request meets, 0 for none.
 pub fn why_request(root: &[u64], sizes: Sizes, t: u64, c: u64, request: Waiting) -> u64
     requires { ⌜ (sizes .h ≤ 16) × ((sizes .r ≤ 64) × (length (now root) ≡ 256)) ⌝ }
     ensures { λ r. ⌜ r ≡ firstGiven (requestRows sizes t c (records (now (root .entry))) request) ⌝ }
@@ -148,7 +148,7 @@ pub fn why_request(root: &[u64], sizes: Sizes, t: u64, c: u64, request: Waiting)
     }
 }
 
-// How many numbers the list of a request has.
+// For crates above: how many numbers the list of a request has.
 pub fn counts_for(sizes: Sizes, request: Waiting) -> Listed
     requires { ⌜ (1 ≤ sizes .h) × (sizes .h ≤ 16) ⌝ }
     ensures { λ r. ⌜ r ≡ countsFor (sizes .h) request ⌝ }
@@ -167,7 +167,7 @@ pub fn counts_for(sizes: Sizes, request: Waiting) -> Listed
     }
 }
 
-// The words that are fetched for a list of so many numbers.
+// For crates above: the words that are fetched for a list of so many numbers.
 pub fn fetched_for(counts: Listed, z: usize) -> usize
     requires { ⌜ (z ≤ 5) × ((counts .whole ≤ 32) × (counts .least ≤ 32)) ⌝ }
     ensures { λ n. ⌜ n ≡ fetchedFor z counts ⌝ }
