@@ -25,7 +25,7 @@ use Rattle.card.specs.Answers.{Answered}
 use Rattle.card.specs.Calls.{listOf}
 
 -- what a finish answers, with the words moved: "It answers label and stamp." of Insert; ExtractMin the record that was the
--- root's least; Delete whether it was there
+-- root's least; Delete whether it was there. Where none waits it is never asked for: 3 is given before (`finishTable`).
 abbrev pub answerTo : Waiting → ℕ → Record → Bool → ℕ → Answer
 answerTo Nothing t least found moved = Refused 3
 answerTo (Insert key value label first second) t least found moved = Inserted label (record { 0 = t }) moved
