@@ -17,7 +17,7 @@ use Rattle.lists.specs.declared.Listed.{Listed as Counts}
 use Rattle.lists.specs.BucketList.{pairList, pathList, fetchedFor}
 use Rattle.request.specs.declared.Waiting.{Waiting}
 use Rattle.request.specs.declared.Waiting.the-variants.{Insert, Extract, Delete}
-use Rattle.request.specs.Tables.{countsFor}
+use Rattle.listing.specs.Listing.{countsFor}
 use Rattle.card.specs.Calls.{listOf}
 use Rattle.demands.specs.Queue.{Reference, Event, Queue, Request, has, withoutThis, extractMin, next, nothing, delete as remove}
 use Rattle.demands.specs.World.{World, Asked, insert, extract, delete, Call, begin, finish, findMin, step}

@@ -1,6 +1,6 @@
 -- With N slots in the root or more, no list of calls ever overflows, whatever the labels: the root then has more slots than there
 -- are live events when an Insert is taken. So there are sizes for which the same traces follow. Assumes nothing.
-use Prim.Native.Nat.{ℕ, suc, _≤_}
+use Prim.Native.Nat.{ℕ, zero, suc, _≤_}
 use mathlib.Core.Bool.{Bool, true, false, not}
 use mathlib.Core.List.{List, [], _∷_}
 use mathlib.Core.Logic.{inl, inr, ⊎-elim}
@@ -23,7 +23,8 @@ use Rattle.card.specs.declared.Card.{Card}
 use Rattle.request.specs.declared.Waiting.{Waiting}
 use Rattle.request.specs.declared.Waiting.the-variants.{Nothing, Insert, Extract, Delete}
 use Rattle.card.specs.declared.Done.{Done}
-use Rattle.card.specs.Answers.{orRefused, numberOf}
+use Rattle.answers.specs.Answers.{numberOf}
+use Rattle.card.specs.Answers.{orRefused}
 use Rattle.request.specs.Tables.{insertRows, extractRows, deleteRows, requestRows}
 use Rattle.card.specs.Calls.{beginTable, minTable, withdrawTable}
 use Rattle.card.specs.Finish.{entryTable, finishTable, finishedBy, leftBy, finished}
@@ -115,10 +116,8 @@ module _ (u : World) (q : Queue) (h : Holds u q) (roomy : leavesOf (u .card .siz
 -- ---- a call that does not overflow
 answered-ten : (k : Card) (n : ℕ) (d : Done) → (n ≡ 10 → ⊥) → (numberOf (d .answer) ≡ 10 → ⊥) → numberOf (orRefused k n d .answer) ≡ 10 → ⊥
 unfolding orRefused
-answered-ten k n d h g e = elim (dichotomy (eqb n 0)) [
-  | inr t ↦ g (rw t at e)
-  | inl f ↦ h (rw f at e)
-]
+answered-ten k zero d h g e = g e
+answered-ten k (suc n) d h g e = h e
 
 finished-ten : (k : Card) (w : Waiting) (l : Left) → numberOf (finishedBy k w l .answer) ≡ 10 → ⊥
 unfolding finishedBy

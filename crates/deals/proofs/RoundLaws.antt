@@ -1,5 +1,5 @@
 -- One request on a world that holds, begun and finished: what the rack sees of it, and what it leaves. Assumes nothing.
-use Prim.Native.Nat.{ℕ, _+_, _<_, _≤_}
+use Prim.Native.Nat.{ℕ, zero, suc, _+_, _<_, _≤_}
 use mathlib.Core.Bool.{true, false, true≢false}
 use mathlib.Core.List.{List, [], List·Memᴰ, Memᴰ·of-map}
 use mathlib.Core.Logic.{inl, inr}
@@ -9,13 +9,13 @@ use mathlib.Mathlib.Data.Bool.Basic.{dichotomy}
 use native.Mathlib.Omega.{arith}
 use lib.Dec.{eqb}
 use lib.ListN.{length, length-map}
-use borrow.Author.Tests.{eqb-true, eqb-false, eq-eqb, ne-eqb}
+use borrow.Author.Tests.{eqb-true, eqb-false, ne-eqb}
 use Rattle.record.specs.Standing.{isProper}
 use Rattle.record.proofs.StandingLaws.{proper-true, known-below}
 use Rattle.record.proofs.ManyLaws.{every-each}
 use Rattle.path.specs.Sizes.{leavesOf}
 use Rattle.lists.specs.declared.Listed.{Listed as Counts}
-use Rattle.lists.specs.BucketList.{fetchedFor}
+use Rattle.lists.specs.BucketList.{noBuckets, fetchedFor}
 use Rattle.path.proofs.SizesLaws.{in-range}
 use Rattle.refusal.specs.Refusal.{firstGiven}
 use Rattle.refusal.proofs.RefusalLaws.{none-given}
@@ -26,16 +26,18 @@ use Rattle.card.specs.declared.Card.{Card}
 use Rattle.card.specs.declared.Done.{Done}
 use Rattle.request.specs.declared.Waiting.{Waiting}
 use Rattle.request.specs.declared.Waiting.the-variants.{Nothing, Insert, Extract, Delete}
-use Rattle.card.specs.declared.Answer.{Answer}
-use Rattle.card.specs.declared.Answer.the-variants.{Started, Listed, Least, Withdrawn, Inserted, Extracted, Deleted, Refused}
-use Rattle.card.specs.Answers.{orRefused, numberOf}
+use Rattle.answers.specs.declared.Answer.{Answer}
+use Rattle.answers.specs.declared.Answer.the-variants.{Started, Listed, Least, Withdrawn, Inserted, Extracted, Deleted, Refused}
+use Rattle.answers.specs.Answers.{numberOf}
+use Rattle.card.specs.Answers.{orRefused}
 use Rattle.request.specs.Tables.{waits}
 use Rattle.card.specs.Tables.{requestTable}
 use Rattle.card.specs.BadCard.{badCard}
-use Rattle.request.specs.Tables.{countsFor}
-use Rattle.card.specs.Calls.{listOf, beginTable, minTable, withWaiting}
+use Rattle.listing.specs.Listing.{countsFor}
+use Rattle.card.specs.Calls.{listOf, beginTable, begun as begunDone, minTable, foundMin, withWaiting}
 use Rattle.card.specs.Finish.{leftBy, finishedBy, finished, wordsNeeded}
-use Rattle.card.proofs.BeginLaws.{accepted, counts-for, request-refused, room-enough}
+use Rattle.card.proofs.AnswerLaws.{number-given}
+use Rattle.card.proofs.BeginLaws.{accepted, counts-of, request-refused, room-enough}
 use Rattle.served.proofs.CallLaws.{ready-card}
 use Rattle.demands.specs.Queue.{Event, Queue, Request, leastEvent, next, reply}
 use Rattle.demands.specs.World.{World, Asked, insert, extract, delete, Call, begin, finish, withdraw, findMin, Outcome, held, finishNumber, shown, step}
@@ -44,14 +46,14 @@ use Rattle.demands.proofs.AnswerLaws.{least-told}
 use Rattle.demands.proofs.StepLaws.{Holds}
 use Rattle.demands.proofs.Demand2.{plays, finishes}
 use Rattle.demands.proofs.JobLaws.{passed, waits-now}
-use Rattle.deals.specs.Trace.{noList, storedBack, numberGiven, seen, askedFor}
+use Rattle.deals.specs.Trace.{storedBack, numberGiven, seen, askedFor}
 use Rattle.deals.specs.Sequences.{well}
 
 -- an answer that is well is no refusal
 well-numbered : (a : Answer) → well a ≡ true → numberOf a ≡ 0
 well-numbered Started e = refl
 well-numbered (Listed whole least) e = refl
-well-numbered (Least r) e = refl
+well-numbered (Least r words) e = refl
 well-numbered Withdrawn e = refl
 well-numbered (Inserted label stamp words) e = refl
 well-numbered (Extracted r words) e = refl
@@ -64,10 +66,8 @@ passes-well u c e = well-numbered (step u c .answer) e
 -- ---- no call changes the sizes
 answered-sizes : (k : Card) (n : ℕ) (d : Done) → d .card .sizes ≡ k .sizes → orRefused k n d .card .sizes ≡ k .sizes
 unfolding orRefused
-answered-sizes k n d e = elim (dichotomy (eqb n 0)) [
-  | inr t ↦ rw t e
-  | inl f ↦ rw f
-]
+answered-sizes k zero d e = e
+answered-sizes k (suc n) d e = refl
 
 finished-sizes : (k : Card) (w : Waiting) (l : Left) → finishedBy k w l .card .sizes ≡ k .sizes
 unfolding finishedBy
@@ -89,15 +89,12 @@ module _ (u : World) {w : Waiting} (asked : Asked w) (places : List ℕ) where
   n = firstGiven (beginTable (u .card) w (length places))
 
   begin-number : numberGiven (step u (begin asked places)) ≡ n
-  unfolding step orRefused
-  begin-number = elim (dichotomy (eqb n 0)) [
-    | inl f ↦ rw f
-    | inr t ↦ rw (t, eqb-true n 0 t)
-  ]
+  unfolding step
+  begin-number = number-given (u .card) n (begunDone (u .card) w) refl
 
   module _ (e : numberGiven (step u (begin asked places)) ≡ 0) where
-    passes : eqb n 0 ≡ true
-    passes = eq-eqb n 0 (sym begin-number ∙ e)
+    passes : n ≡ 0
+    passes = sym begin-number ∙ e
 
     -- the list that is then held, and the card
     begin-held : held (step u (begin asked places) .world) ≡ listOf (u .card) w
@@ -124,6 +121,12 @@ finished-idle k (Insert key value label first second) l e = refl
 finished-idle k Extract l e = refl
 finished-idle k (Delete label stamp) l e = refl
 
+passed-idle : (k : Card) (m : ℕ) (d : Done) → (numberOf (d .answer) ≡ 0 → d .card .waiting ≡ Nothing)
+    → numberOf (orRefused k m d .answer) ≡ 0 → orRefused k m d .card .waiting ≡ Nothing
+unfolding orRefused
+passed-idle k zero d h e = h e
+passed-idle k (suc m) d h e = absurd (omega arith)
+
 module _ (v : World) (words : List ℕ) (e : numberGiven (step v (finish words)) ≡ 0) where
   finish-seen : seen v (finish words) ≡ storedBack (held v)
   unfolding seen
@@ -132,11 +135,8 @@ module _ (v : World) (words : List ℕ) (e : numberGiven (step v (finish words))
   finish-idle : step v (finish words) .world .card .waiting ≡ Nothing
   unfolding step orRefused
   finish-idle =
-      let m = finishNumber v (shown v words) in
-      elim (dichotomy (eqb m 0)) [
-        | inl f ↦ absurd (eqb-false m 0 f (rw f at e))
-        | inr t ↦ rw t (finished-idle (v .card) (v .card .waiting) (leftBy (v .card) (v .card .waiting) (shown v words)) (rw t at e))
-      ]
+      passed-idle (v .card) (finishNumber v (shown v words)) (finished (v .card) (shown v words))
+      (finished-idle (v .card) (v .card .waiting) (leftBy (v .card) (v .card .waiting) (shown v words))) e
 
 -- ---- what holds between two requests
 pub record Idle (u : World) (q : Queue) : Type 0 where
@@ -184,29 +184,28 @@ module _ (u : World) (q : Queue) (i : Idle u q) where
       ]
 
 -- ---- FindMin
+kept-card : (k : Card) (m : ℕ) → orRefused k m (foundMin k) .card ≡ k
+unfolding orRefused
+kept-card k zero = refl
+kept-card k (suc m) = refl
+
 module _ (u : World) where
   abbrev m : ℕ
   m = firstGiven (minTable (u .card))
 
   look-number : numberGiven (step u findMin) ≡ m
-  unfolding step orRefused
-  look-number = elim (dichotomy (eqb m 0)) [
-    | inl f ↦ rw f
-    | inr t ↦ rw (t, eqb-true m 0 t)
-  ]
+  unfolding step
+  look-number = number-given (u .card) m (foundMin (u .card)) refl
 
   look-card : step u findMin .world .card ≡ u .card
-  unfolding step orRefused
-  look-card = elim (dichotomy (eqb m 0)) [
-    | inl f ↦ rw f
-    | inr t ↦ rw t
-  ]
+  unfolding step
+  look-card = kept-card (u .card) m
 
   pub look-well : numberGiven (step u findMin) ≡ 0 → well (step u findMin .answer) ≡ true
   unfolding step orRefused
-  look-well e = rw (eq-eqb m 0 (sym look-number ∙ e))
+  look-well e = rw (sym look-number ∙ e)
 
-  pub look-seen : seen u findMin ≡ askedFor noList
+  pub look-seen : seen u findMin ≡ askedFor noBuckets
   unfolding seen
   look-seen = refl
 
@@ -297,6 +296,6 @@ module _ (u : World) (q : Queue) {w : Waiting} (asked : Asked w) (places words :
         let k = withWaiting (u .card) w in
         let height = in-range (u .card .sizes) (i .holds .stands .ready .heap .sizes) .tree .height .0 in
         let enough : wordsNeeded k ≤ length words =
-        subst (λ (m : Counts). fetchedFor (u .card .sizes .z) m ≤ length words) (sym (counts-for k w height)) lent in
+        subst (λ (m : Counts). fetchedFor (u .card .sizes .z) m ≤ length words) (sym (counts-of k w height)) lent in
         round (finishes begun q begun-holds words (ap waits now-waits ∙ asked-waits asked)
         (subst (λ (k : Card). wordsNeeded k ≤ length words) (sym (begin-card u asked places b)) enough))

@@ -9,7 +9,7 @@ use Rattle.path.specs.declared.sizes.Sizes.{Sizes}
 use Rattle.path.specs.Sizes.{inRange}
 use Rattle.lists.specs.BucketList.{laid}
 use Rattle.card.specs.declared.Card.{Card}
-use Rattle.card.specs.Answers.{numberOf}
+use Rattle.answers.specs.Answers.{numberOf}
 use Rattle.request.specs.Tables.{waits}
 use Rattle.card.specs.Calls.{listOf}
 use Rattle.card.specs.Finish.{wordsNeeded}

@@ -1,5 +1,5 @@
 -- A finish on a world that stands, with the rack's fetch before it and its store after it. Assumes nothing.
-use Prim.Native.Nat.{ℕ, _+_, _≤_, _<_}
+use Prim.Native.Nat.{ℕ, zero, suc, _≤_, _<_}
 use mathlib.Core.Bool.{true, false}
 use mathlib.Core.List.{List, [], _++_}
 use mathlib.Core.Logic.{_⊎_, inl, inr}
@@ -8,22 +8,24 @@ use mathlib.Mathlib.Data.Bool.Basic.{dichotomy}
 use native.Mathlib.Omega.{arith}
 use lib.Dec.{ltb}
 use lib.ListN.{length, drop, length-append, length-map}
-use borrow.Author.Tests.{ltb-true, ltb-false, lt-ltb, ne-eqb}
+use borrow.Author.Tests.{ltb-true, ltb-false, lt-ltb}
 use Rattle.record.specs.declared.Record.{Record}
 use Rattle.path.specs.Path.{number}
 use Rattle.path.proofs.SizesLaws.{tree-range}
 use Rattle.lists.specs.BucketList.{BucketList, numbers, laid}
-use Rattle.refusal.specs.Refusal.{firstGiven}
 use Rattle.settle.specs.Left.{Left, wordsLeft}
 use Rattle.copies.specs.Copy.{fetched, stored}
 use Rattle.rack.proofs.ListedLaws.{listed-laid, laid-passes}
 use Rattle.rack.proofs.RefusalLaws.{refuses-words}
 use Rattle.card.specs.declared.Card.{Card}
-use Rattle.card.specs.declared.Answer.the-variants.{Refused}
-use Rattle.card.specs.Answers.{orRefused, numberOf}
+use Rattle.answers.specs.declared.Answer.the-variants.{Refused}
+use Rattle.answers.specs.Answers.{numberOf}
+use Rattle.card.specs.Answers.{orRefused}
 use Rattle.request.specs.Tables.{waits}
 use Rattle.card.specs.Calls.{listOf}
-use Rattle.card.specs.Finish.{leftBy, cardLeft, wordsNeeded, entryTable, finished}
+use Rattle.card.specs.Finish.{leftBy, cardLeft, wordsNeeded, finished}
+use Rattle.card.proofs.FinishLaws.{none-waits, words-short}
+use Rattle.card.proofs.FinishedLaws.{entry-decides}
 use Rattle.served.specs.Ready.{Ready}
 use Rattle.served.specs.LiveAfter.{liveAfter}
 use Rattle.served.proofs.CallLaws.{ready-card}
@@ -39,7 +41,8 @@ module _ (v : World) (fetch : ℕ) (ws : List ℕ) where
   finishing-refused : (n : ℕ) → finishNumber v ws ≡ n → (n ≡ 0 → ⊥)
       → record { world = v; answer = Refused n; fetch = fetch; store = 0 } ≡ finishing v fetch ws
   unfolding orRefused
-  finishing-refused n e h = rw (e, ne-eqb n 0 h)
+  finishing-refused zero e h = absurd (h refl)
+  finishing-refused (suc n) e h = rw e
 
 module _ (k : Card) (tree places : List ℕ) (live : List Record) (r : Ready k tree live) (word : WordKey (k .waiting)) where
   abbrev l : BucketList
@@ -71,13 +74,11 @@ module _ (k : Card) (tree places : List ℕ) (live : List Record) (r : Ready k t
 
   -- ---- none waits: 3
   idle-number : (ws : List ℕ) → waits (k .waiting) ≡ false → finishNumber u ws ≡ 3
-  unfolding entryTable firstGiven
-  idle-number ws e = rw (ready-card k tree live r, e)
+  idle-number ws e = entry-decides k ws 3 (sym (none-waits k (length ws) (ready-card k tree live r) e)) (omega arith)
 
   -- ---- too few words: 11
   short-number : (ws : List ℕ) → waits (k .waiting) ≡ true → length ws < wordsNeeded k → finishNumber u ws ≡ 11
-  unfolding entryTable firstGiven
-  short-number ws e few = rw (ready-card k tree live r, e, lt-ltb _ _ few)
+  short-number ws e few = entry-decides k ws 11 (sym (words-short k (length ws) (ready-card k tree live r) e few)) (omega arith)
 
   refused-plays : (ws words : List ℕ) (n : ℕ) → finishNumber u ws ≡ n → (n ≡ 0 → ⊥) → n ≤ 11
       → Plays u q (finish words) (finishing u (rackNumber u words) ws)

@@ -8,16 +8,16 @@ use mathlib.Core.Option.{some}
 use mathlib.Core.Path.{_≡_, refl, sym, ap, _∙_, subst}
 use mathlib.Mathlib.Data.Bool.Basic.{dichotomy}
 use native.Mathlib.Omega.{arith}
-use lib.Dec.{eqb}
 use lib.ListN.{length, take, drop, replicate, length-map}
 use lib.Seq.{take-all, drop-at}
-use borrow.Author.Tests.{eqb-false}
 use Rattle.path.specs.declared.sizes.Sizes.{Sizes}
 use Rattle.path.specs.Sizes.{inRange}
 use Rattle.refusal.specs.Refusal.{firstGiven}
 use Rattle.request.specs.declared.Waiting.{Waiting}
-use Rattle.card.specs.Answers.{orRefused, numberOf}
-use Rattle.card.specs.Calls.{beginTable}
+use Rattle.answers.specs.Answers.{numberOf}
+use Rattle.card.specs.Answers.{orRefused}
+use Rattle.card.specs.Calls.{beginTable, begun}
+use Rattle.card.proofs.AnswerLaws.{number-given}
 use Rattle.demands.specs.Queue.{Reference, Event, Queue, Request, Reply, emptyQueue, noDearer, told, extractMin, reply, next}
 use Rattle.demands.specs.World.{World, freshWorld, Asked, Call, begin, finish, Outcome, step}
 use Rattle.demands.specs.Says.{asks, says, requestOf}
@@ -40,11 +40,8 @@ pub waits-now : (u : World) {w : Waiting} (asked : Asked w) (lent : List ℕ) �
     → step u (begin asked lent) .world .card .waiting ≡ w
 unfolding step orRefused
 waits-now u {w} asked lent e =
-    let n = firstGiven (beginTable (u .card) w (length lent)) in
-    elim (dichotomy (eqb n 0)) [
-      | inl f ↦ absurd (eqb-false n 0 f (rw f at e))
-      | inr t ↦ rw t
-    ]
+    let none = sym (number-given (u .card) (firstGiven (beginTable (u .card) w (length lent))) (begun (u .card) w) refl) ∙ e in
+    rw none
 
 pub jobs-answered : {u : World} {js : List Job} → Passes u js → (q : Queue) → Holds u q → answers u js ≡ replies q (map wanted js)
 unfolding answers replies

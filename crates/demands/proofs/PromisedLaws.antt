@@ -1,30 +1,27 @@
 -- The contracts leave one outcome of each call, and it is the one of `step`. Assumes nothing.
-use Prim.Native.Nat.{ℕ}
-use mathlib.Core.Bool.{true, cond}
+use Prim.Native.Nat.{ℕ, zero, suc}
+use mathlib.Core.Bool.{true}
 use mathlib.Core.List.{List, [], _∷_}
-use mathlib.Core.Logic.{inl, inr}
 use mathlib.Core.Path.{_≡_, refl, sym, ap, _∙_}
-use mathlib.Mathlib.Data.Bool.Basic.{dichotomy}
-use lib.Dec.{eqb}
 use lib.ListN.{length}
-use borrow.Author.Tests.{eqb-true, eq-eqb, ne-eqb}
+use borrow.Author.Tests.{eq-eqb}
 use Rattle.path.specs.declared.sizes.Sizes.{Sizes}
 use Rattle.path.specs.Sizes.{treeIn, inRange}
 use Rattle.path.specs.Layout.{treeWords, freshTree}
 use Rattle.lists.specs.BucketList.{laid}
-use Rattle.refusal.specs.Refusal.{firstGiven}
+use Rattle.refusal.specs.Refusal.{firstGiven, afterwards}
+use Rattle.refusal.proofs.RefusalLaws.{left-before, left-done}
 use Rattle.rack.specs.declared.Answer.{Answer as RackAnswer}
 use Rattle.rack.specs.Answers.{answerNumber, fillRefusal}
 use Rattle.rack.specs.Promises.{Fills}
 use Rattle.request.specs.declared.Waiting.{Waiting}
 use Rattle.card.specs.declared.Done.{Done}
-use Rattle.card.specs.Answers.{orRefused, numberOf, Answered}
+use Rattle.answers.specs.Answers.{numberOf}
+use Rattle.card.specs.Answers.{orRefused, Answered}
 use Rattle.card.specs.Calls.{startTable, started, zeroCard, Begins, beginTable, begun, listOf}
 use Rattle.card.specs.Finish.{Finishes}
-use Rattle.demands.specs.World.{World, Call, Outcome, unless, alone, rackNumber, shown, finishNumber, wordsAfter, storedFrom}
-use Rattle.demands.specs.World.{finishing, step, outcomes}
-use Rattle.demands.specs.Promised.{Promised, by-begin, by-withdraw, by-min, by-refused, by-finish}
-use Rattle.demands.specs.Promised.{Carried, ended, called, holding, told, wholeCount, leastCount, FetchesHeld, StoresHeld}
+use Rattle.demands.specs.World.{World, Call, Outcome, alone, rackNumber, shown, finishNumber, wordsAfter, storedFrom, finishing, step, outcomes}
+use Rattle.demands.specs.Promised.{Promised, by-begin, by-withdraw, by-min, by-refused, by-finish, Carried, ended, called, holding, told, wholeCount, leastCount, FetchesHeld, StoresHeld}
 
 -- a call of the card alone
 alone-told : (u : World) (n : ℕ) (done d : Done) (list : List ℕ) (whole least : ℕ) → Answered (u .card) n done d
@@ -37,9 +34,9 @@ alone-told u n done d list whole least a =
       world = record {
         card = whole-answer i .card;
         tree = u .tree;
-        list = cond (eqb (number i) 0) list (u .list);
-        whole = cond (eqb (number i) 0) whole (u .whole);
-        least = cond (eqb (number i) 0) least (u .least);
+        list = afterwards (number i) list (u .list);
+        whole = afterwards (number i) whole (u .whole);
+        least = afterwards (number i) least (u .least);
       };
       answer = whole-answer i .answer;
       fetch = 0;
@@ -49,15 +46,12 @@ alone-told u n done d list whole least a =
 -- the list does not matter where a number is given
 alone-agree : (u : World) (n : ℕ) (done : Done) (list list′ : List ℕ) (whole whole′ least least′ : ℕ) → (n ≡ 0 → list ≡ list′)
     → (n ≡ 0 → whole ≡ whole′) → (n ≡ 0 → least ≡ least′) → alone u n done list whole least ≡ alone u n done list′ whole′ least′
-alone-agree u n done list list′ whole whole′ least least′ p q r = elim (dichotomy (eqb n 0)) [
-  | inl f ↦ rw f
-  | inr t ↦
-      let e = eqb-true n 0 t in
-      let pe = p e in
-      let qe = q e in
-      let re = r e in
-      λ i. alone u n done (pe i) (qe i) (re i)
-]
+alone-agree u zero done list list′ whole whole′ least least′ p q r =
+    let pe = p refl in
+    let qe = q refl in
+    let re = r refl in
+    λ i. alone u 0 done (pe i) (qe i) (re i)
+alone-agree u (suc n) done list list′ whole whole′ least least′ p q r = refl
 
 begin-told : (u : World) (w : Waiting) (lent after : List ℕ) (d : Done) → Begins (u .card) w lent after d
     → told u d after (wholeCount u d) (leastCount u d) ≡ alone u (firstGiven (beginTable (u .card) w (length lent))) (begun (u .card) w)
@@ -65,16 +59,10 @@ begin-told : (u : World) (w : Waiting) (lent after : List ℕ) (d : Done) → Be
 unfolding orRefused
 begin-told u w lent after d b =
     let n = firstGiven (beginTable (u .card) w (length lent)) in
-    let is : n ≡ 0 → d ≡ begun (u .card) w = λ e. b .call .whole ∙ rw (eq-eqb n 0 e) in
+    let is : n ≡ 0 → d ≡ begun (u .card) w = λ e. b .call .whole ∙ left-done n _ _ e in
     alone-told u n (begun (u .card) w) d after (wholeCount u d) (leastCount u d) (b .call)
     ∙ alone-agree u n (begun (u .card) w) after _ (wholeCount u d) _ (leastCount u d) _
-    (λ e. b .places ∙ rw (eq-eqb n 0 e)) (λ e. ap (wholeCount u) (is e)) (λ e. ap (leastCount u) (is e))
-
-unless-yes : {A : Type 0} (n : ℕ) (x y : A) → n ≡ 0 → x ≡ unless n x y
-unless-yes n x y e = rw (eq-eqb n 0 e)
-
-unless-no : {A : Type 0} (n : ℕ) (x y : A) → (n ≡ 0 → ⊥) → y ≡ unless n x y
-unless-no n x y e = rw (ne-eqb n 0 e)
+    (λ e. b .places ∙ left-done n _ _ e) (λ e. ap (wholeCount u) (is e)) (λ e. ap (leastCount u) (is e))
 
 module _ (u : World) (words ws after : List ℕ) (a : RackAnswer) (d : Done) (f : FetchesHeld u words a ws) (g : Finishes (u .card) ws after d) where
   fetched-so : finishing u (answerNumber a) ws ≡ finishing u (rackNumber u words) (shown u words)
@@ -89,16 +77,16 @@ module _ (u : World) (words ws after : List ℕ) (a : RackAnswer) (d : Done) (f 
       let number = g .call .numbered in
       let answer = g .call .whole in
       let given : finishNumber u ws ≡ 0 → ⊥ = λ e. some (number ∙ e) in
-      let tree = unless-no (finishNumber u ws) (storedFrom u (wordsAfter u ws)) (u .tree) given in
-      let store = unless-no (finishNumber u ws) (rackNumber u (wordsAfter u ws)) 0 given in
+      let tree = sym (left-before (finishNumber u ws) (storedFrom u (wordsAfter u ws)) (u .tree) given) in
+      let store = sym (left-before (finishNumber u ws) (rackNumber u (wordsAfter u ws)) 0 given) in
       λ i.
       record {
         world = record {
           card = answer i .card;
           tree = tree i;
-          list = unless (number i) [] (u .list);
-          whole = unless (number i) 0 (u .whole);
-          least = unless (number i) 0 (u .least);
+          list = afterwards (number i) [] (u .list);
+          whole = afterwards (number i) 0 (u .whole);
+          least = afterwards (number i) 0 (u .least);
         };
         answer = answer i .answer;
         fetch = answerNumber a;
@@ -112,15 +100,15 @@ module _ (u : World) (words ws after : List ℕ) (a : RackAnswer) (d : Done) (f 
         fetch = answerNumber a;
         store = answerNumber b;
       } ≡ finishing u (answerNumber a) ws
-  done-so zero tree b s =
+  done-so well tree b s =
       let n = finishNumber u ws in
       let answer = g .call .whole in
-      let none = sym (g .call .numbered) ∙ zero in
-      let trees = s .lent ∙ ap (storedFrom u) (g .words) ∙ unless-yes n (storedFrom u (wordsAfter u ws)) (u .tree) none in
-      let stores = s .number ∙ ap (rackNumber u) (g .words) ∙ unless-yes n (rackNumber u (wordsAfter u ws)) 0 none in
-      let lists = unless-yes n [] (u .list) none in
-      let wholes = unless-yes n 0 (u .whole) none in
-      let leasts = unless-yes n 0 (u .least) none in
+      let none = sym (g .call .numbered) ∙ well in
+      let trees = s .lent ∙ ap (storedFrom u) (g .words) ∙ sym (left-done n (storedFrom u (wordsAfter u ws)) (u .tree) none) in
+      let stores = s .number ∙ ap (rackNumber u) (g .words) ∙ sym (left-done n (rackNumber u (wordsAfter u ws)) 0 none) in
+      let lists = sym (left-done n [] (u .list) none) in
+      let wholes = sym (left-done n 0 (u .whole) none) in
+      let leasts = sym (left-done n 0 (u .least) none) in
       λ i.
       record {
         world = record { card = answer i .card; tree = trees i; list = lists i; whole = wholes i; least = leasts i };

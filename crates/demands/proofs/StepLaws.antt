@@ -1,6 +1,6 @@
 -- One call on a world that stands: refused, with all as it was, or answered as the queue, and the world stands again.
 -- Assumes nothing.
-use Prim.Native.Nat.{ℕ, _+_, _≤_}
+use Prim.Native.Nat.{ℕ, zero, suc, _≤_}
 use mathlib.Core.Bool.{Bool, true, false}
 use mathlib.Core.List.{List, [], _∷_, _++_}
 use mathlib.Core.Logic.{_⊎_, inl, inr}
@@ -9,7 +9,7 @@ use mathlib.Mathlib.Data.Bool.Basic.{dichotomy}
 use native.Mathlib.Omega.{arith}
 use lib.Dec.{eqb}
 use lib.ListN.{length}
-use borrow.Author.Tests.{eqb-true, eqb-false, eq-eqb, ne-eqb}
+use borrow.Author.Tests.{eqb-true, eqb-false}
 use Rattle.record.specs.declared.Record.{Record}
 use Rattle.lists.specs.BucketList.{BucketList, laid}
 use Rattle.refusal.specs.Refusal.{Refusal, row, firstGiven}
@@ -17,8 +17,8 @@ use Rattle.refusal.proofs.RefusalLaws.{none-given}
 use Rattle.card.specs.declared.Card.{Card}
 use Rattle.request.specs.declared.Waiting.{Waiting}
 use Rattle.request.specs.declared.Waiting.the-variants.{Nothing, Insert, Extract, Delete}
-use Rattle.card.specs.declared.Answer.{Answer}
-use Rattle.card.specs.declared.Answer.the-variants.{Refused}
+use Rattle.answers.specs.declared.Answer.{Answer}
+use Rattle.answers.specs.declared.Answer.the-variants.{Refused}
 use Rattle.card.specs.declared.Done.{Done}
 use Rattle.card.specs.Answers.{orRefused}
 use Rattle.request.specs.Tables.{insertRows, extractRows, deleteRows, requestRows, waits}
@@ -54,16 +54,17 @@ pub record Plays (u : World) (q : Queue) (c : Call) (o : Outcome) : Type 0 where
 abbrev quiet : World → Answer → Outcome
 quiet u a = record { world = u; answer = a; fetch = 0; store = 0 }
 
-module _ (u : World) (n : ℕ) (done : Done) (list : List ℕ) (whole least : ℕ) where
-  alone-refused : (n ≡ 0 → ⊥) → quiet u (Refused n) ≡ alone u n done list whole least
-  unfolding orRefused
-  alone-refused h = rw (ne-eqb n 0 h)
+alone-refused : (u : World) (n : ℕ) (done : Done) (list : List ℕ) (whole least : ℕ) → (n ≡ 0 → ⊥)
+    → quiet u (Refused n) ≡ alone u n done list whole least
+unfolding orRefused
+alone-refused u zero done list whole least h = absurd (h refl)
+alone-refused u (suc n) done list whole least h = refl
 
-  alone-done : n ≡ 0
-      → quiet (record { card = done .card; tree = u .tree; list = list; whole = whole; least = least }) (done .answer)
-      ≡ alone u n done list whole least
-  unfolding orRefused
-  alone-done h = rw (eq-eqb n 0 h)
+alone-done : (u : World) (n : ℕ) (done : Done) (list : List ℕ) (whole least : ℕ) → n ≡ 0
+    → quiet (record { card = done .card; tree = u .tree; list = list; whole = whole; least = least }) (done .answer)
+    ≡ alone u n done list whole least
+unfolding orRefused
+alone-done u n done list whole least h = rw h
 
 quiet-rack : (u v : World) (c : Call) (a : Answer) → RackPasses u c (quiet v a)
 quiet-rack u v c a = record { fetch = inl refl; store = refl }

@@ -10,8 +10,8 @@ use Rattle.record.specs.declared.Record.{Record}
 use Rattle.path.specs.declared.sizes.Sizes.{Sizes}
 use Rattle.path.specs.Sizes.{inRange}
 use Rattle.rack.specs.Answers.{wordsFor}
-use Rattle.card.specs.declared.Answer.the-variants.{Refused}
-use Rattle.card.specs.Answers.{numberOf}
+use Rattle.answers.specs.declared.Answer.the-variants.{Refused}
+use Rattle.answers.specs.Answers.{numberOf}
 use Rattle.served.specs.Ready.{Ready}
 use Rattle.demands.specs.Queue.{Queue, Request, emptyQueue, reply, next}
 use Rattle.demands.specs.World.{World, freshWorld, Call, begin, finish, withdraw, findMin, Outcome, step}

@@ -5,10 +5,9 @@ use Rattle.record.specs.declared.Stamp.{Stamp}
 use Rattle.record.specs.declared.Record.{Record}
 use Rattle.request.specs.declared.Waiting.{Waiting}
 use Rattle.request.specs.declared.Waiting.the-variants.{Nothing, Insert, Extract, Delete}
-use Rattle.card.specs.declared.Answer.{Answer}
-use Rattle.card.specs.declared.Answer.the-variants.{Started, Listed, Least, Withdrawn, Inserted, Extracted, Deleted, Refused}
-use Rattle.demands.specs.Queue.{Reference, Event, Request, insert, extractMin, delete, nothing, findMin as findLeast}
-use Rattle.demands.specs.Queue.{Reply, referred, told, wasFound, silent}
+use Rattle.answers.specs.declared.Answer.{Answer}
+use Rattle.answers.specs.declared.Answer.the-variants.{Started, Listed, Least, Withdrawn, Inserted, Extracted, Deleted, Refused}
+use Rattle.demands.specs.Queue.{Reference, Event, Request, insert, extractMin, delete, nothing, findMin as findLeast, Reply, referred, told, wasFound, silent}
 use Rattle.demands.specs.World.{World, Call, begin, finish, withdraw, findMin}
 
 abbrev pub refOf : Leaf → Stamp → Reference
@@ -35,7 +34,7 @@ requestOf u findMin = findLeast
 abbrev pub says : Answer → Reply
 says Started = silent
 says (Listed whole least) = silent
-says (Least r) = told (some (eventOf r))
+says (Least r words) = told (some (eventOf r))
 says Withdrawn = silent
 says (Inserted label stamp words) = referred (refOf label stamp)
 says (Extracted r words) = told (some (eventOf r))

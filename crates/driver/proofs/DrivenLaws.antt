@@ -8,11 +8,12 @@ use lib.Dec.{eqb}
 use lib.ListN.{length}
 use borrow.Author.Tests.{ne-eqb}
 use Rattle.lists.specs.BucketList.{laid}
-use Rattle.refusal.specs.Refusal.{Refusal, firstGiven}
+use Rattle.refusal.specs.Refusal.{Refusal, firstGiven, afterwards}
 use Rattle.card.specs.declared.Card.{Card}
 use Rattle.card.specs.declared.Done.{Done}
 use Rattle.request.specs.declared.Waiting.{Waiting}
-use Rattle.card.specs.Answers.{numberOf, Answered}
+use Rattle.answers.specs.Answers.{numberOf}
+use Rattle.card.specs.Answers.{Answered}
 use Rattle.card.specs.Calls.{listOf, beginTable, begun, Begins}
 use Rattle.card.specs.Finish.{finishTable, finished, Finishes}
 use Rattle.image.specs.Image.{imageOf}
@@ -23,7 +24,6 @@ use Rattle.held.proofs.HeldLaws.{none-begins, none-finishes, held-odd, held-eve
 use Rattle.rack.specs.declared.Answer.{Answer}
 use Rattle.rack.specs.Answers.{answerNumber}
 use Rattle.rack.specs.Promises.{Answers}
-use Rattle.rack.specs.Refusals.{afterwards}
 use Rattle.told.specs.Told.{Called, Settled, Zeroed}
 use Rattle.told.proofs.ToldLaws.{called, card-left}
 use Rattle.driver.specs.Driven.{onCard, BeginsAt, leftOn, FinishesAt, Racked}
@@ -39,10 +39,6 @@ module _ (ws : List ℕ) (table : Card → List Refusal) where
   even-card h = rw h
 
 -- ---- a call on the card that is held
-laid-or-kept : (number : ℕ) (done before : List ℕ) → cond (eqb number 0) done before ≡ afterwards number done before
-laid-or-kept zero done before = refl
-laid-or-kept (suc number) done before = rw (ne-eqb (suc number) 0 (λ e. omega arith))
-
 module _ (ws : List ℕ) (table : Card → List Refusal) (none : firstGiven (table noCard) ≡ 13) where
   module _ (done : Card → Done) (told : List ℕ) (d : Done) (n : ℕ) (ws′ told′ : List ℕ) where
     called-on :
@@ -72,10 +68,10 @@ module _ (ws : List ℕ) (table : Card → List Refusal) (none : firstGiven (tab
     lent-on false h l = rw (even-card ws table h, ← held-even ws h) l
 
     held-lent :
-        (k : Card) → k ≡ heldIn ws → after ≡ cond (eqb (firstGiven (table k)) 0) (done k) before
+        (k : Card) → k ≡ heldIn ws → after ≡ afterwards (firstGiven (table k)) (done k) before
         → after ≡ afterwards (onCard ws table) (done (cardIn ws)) before
     held-lent k e l =
-        lent-on (oddKind ws) refl (rw e at (l ∙ laid-or-kept (firstGiven (table k)) (done k) before))
+        lent-on (oddKind ws) refl (rw e at l)
 
 -- ---- a begin
 pub held-begin :

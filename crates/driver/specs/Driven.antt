@@ -4,13 +4,12 @@ use mathlib.Core.List.{List, _∷_}
 use mathlib.Core.Path.{_≡_}
 use lib.ListN.{length}
 use Rattle.lists.specs.BucketList.{laid}
-use Rattle.refusal.specs.Refusal.{Refusal, row, firstGiven}
+use Rattle.refusal.specs.Refusal.{Refusal, row, firstGiven, afterwards}
 use Rattle.card.specs.declared.Card.{Card}
 use Rattle.request.specs.declared.Waiting.{Waiting}
 use Rattle.card.specs.Calls.{listOf, beginTable, begun}
 use Rattle.card.specs.Finish.{leftBy, finishTable, finished}
 use Rattle.image.specs.Reading.{cardIn, oddKind}
-use Rattle.rack.specs.Refusals.{afterwards}
 use Rattle.settle.specs.Left.{wordsLeft}
 use Rattle.told.specs.Told.{Called, Zeroed}
 

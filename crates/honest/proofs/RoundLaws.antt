@@ -23,14 +23,15 @@ use Rattle.request.specs.declared.Waiting.{Waiting}
 use Rattle.request.specs.declared.Waiting.the-variants.{Nothing, Insert, Extract, Delete}
 use Rattle.request.specs.Tables.{insertRows, extractRows, deleteRows, requestRows, waits}
 use Rattle.card.specs.Tables.{requestTable}
-use Rattle.request.specs.Tables.{countsFor}
+use Rattle.listing.specs.Listing.{countsFor}
 use Rattle.card.specs.Calls.{withWaiting, listOf, beginTable}
 use Rattle.card.specs.Answers.{orRefused}
 use Rattle.card.specs.Finish.{leftBy, finishTable, cardLeft}
 use Rattle.card.proofs.CallLaws.{same-list}
-use Rattle.card.proofs.BeginLaws.{counts-for, counts-few, request-refused, room-enough}
+use Rattle.listing.proofs.ListingLaws.{counts-few}
+use Rattle.card.proofs.BeginLaws.{counts-of, request-refused, room-enough}
 use Rattle.rounds.specs.Round.{listPlaces, wordPlaces, rackRefusal, finishRefusal, treeLeft, roundRefusal, roundDone, roundTree}
-use Rattle.rounds.proofs.RoundLaws.{or-first, or-second}
+use Rattle.refusal.proofs.RefusalLaws.{or-first, or-second}
 use Rattle.served.specs.Ready.{Ready}
 use Rattle.served.specs.LiveAfter.{liveAfter}
 use Rattle.served.proofs.CallLaws.{ready-card, begin-ready}
@@ -97,7 +98,7 @@ module _
 
     few : fetchedFor (k .sizes .z) (counts (listOf k w)) ≤ length wordPlaces
     few =
-        subst (λ (n : Counts). fetchedFor (k .sizes .z) n ≤ length wordPlaces) (sym (counts-for k w (height .0)))
+        subst (λ (n : Counts). fetchedFor (k .sizes .z) n ≤ length wordPlaces) (sym (counts-of k w (height .0)))
         (words-few (k .sizes .h) (k .sizes .z) w (height .1) (slots .1))
 
     module _ (none : firstGiven (requestTable k w) ≡ 0) where

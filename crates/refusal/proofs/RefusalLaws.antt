@@ -1,11 +1,27 @@
 -- What the first row of a table that is given tells of the others. Assumes nothing.
-use Prim.Native.Nat.{ℕ}
-use mathlib.Core.Bool.{Bool, true, false, cond}
+use Prim.Native.Nat.{ℕ, zero, suc}
+use mathlib.Core.Bool.{Bool, true, false}
 use mathlib.Core.List.{List, [], _∷_, _++_}
-use mathlib.Core.Path.{_≡_, refl}
-use lib.Dec.{eqb}
-use borrow.Author.Tests.{ne-eqb}
-use Rattle.refusal.specs.Refusal.{Refusal, row, firstGiven}
+use mathlib.Core.Path.{_≡_, refl, sym, ap}
+use Rattle.refusal.specs.Refusal.{Refusal, row, firstGiven, orElse, afterwards}
+
+-- ---- the first of two refusals
+pub or-first : (m n : ℕ) → (m ≡ 0 → ⊥) → orElse m n ≡ m
+or-first zero n h = absurd (h refl)
+or-first (suc m) n h = refl
+
+pub or-second : (m n : ℕ) → m ≡ 0 → orElse m n ≡ n
+or-second m n e = ap (λ (x : ℕ). orElse x n) e
+
+-- ---- what stands after a refusal, and after none
+pub left-before : {A : Type 0} (n : ℕ) (done before : A) → (n ≡ 0 → ⊥) → afterwards n done before ≡ before
+left-before zero done before h = absurd (h refl)
+left-before (suc n) done before h = refl
+
+pub left-done : {A : Type 0} (n : ℕ) (done before : A) → n ≡ 0 → afterwards n done before ≡ done
+left-done n done before e = ap (λ (x : ℕ). afterwards x done before) e
+
+-- ---- the rows of a table
 
 -- none is given: neither the first, nor any after it
 pub none-given : (n : ℕ) (b : Bool) (xs : List Refusal) → (n ≡ 0 → ⊥) → firstGiven (row n b ∷ xs) ≡ 0
@@ -21,10 +37,10 @@ pub data Numbered : List Refusal → Type 0 where
 
 -- two tables one after the other
 pub first-append : {xs : List Refusal} (ys : List Refusal) → Numbered xs
-    → firstGiven (xs ++ ys) ≡ cond (eqb (firstGiven xs) 0) (firstGiven ys) (firstGiven xs)
+    → firstGiven (xs ++ ys) ≡ orElse (firstGiven xs) (firstGiven ys)
 unfolding firstGiven
 first-append ys none = refl
-first-append ys (next n {b = true} h t) = rw (ne-eqb n 0 h)
+first-append ys (next n {b = true} h t) = sym (or-first n (firstGiven ys) h)
 first-append ys (next n {b = false} h t) = first-append ys t
 
 pub append-none : {xs : List Refusal} (ys : List Refusal) → Numbered xs → firstGiven (xs ++ ys) ≡ 0

@@ -11,12 +11,13 @@ use lib.Dec.{eqb}
 use lib.ListN.{length, drop}
 use borrow.Author.Tests.{eqb-true, eqb-false, eq-eqb, ne-eqb}
 use Rattle.record.specs.Standing.{dummyKey}
+use Rattle.lists.specs.BucketList.{wordsMoved, sum}
 use Rattle.path.specs.declared.sizes.Sizes.{Sizes}
 use Rattle.path.specs.Sizes.{sizesOf, inRange}
 use Rattle.path.specs.Layout.{freshTree}
 use Rattle.refusal.specs.Refusal.{firstGiven}
 use Rattle.card.specs.declared.Card.{Card}
-use Rattle.card.specs.declared.Answer.the-variants.{Least, Refused}
+use Rattle.answers.specs.declared.Answer.the-variants.{Least, Refused}
 use Rattle.request.specs.declared.Waiting.{Waiting}
 use Rattle.request.specs.declared.Waiting.the-variants.{Insert as AskInsert, Extract as AskExtract, Delete as AskDelete}
 use Rattle.request.specs.Tables.{waits}
@@ -127,8 +128,9 @@ module _ (desk : Desk) (tree : List ℕ) (q : Queue) (h : Holds desk tree q) whe
   min-empty : k .c ≡ 0 → minOf desk ≡ kept desk (Refused 8)
   min-empty e = min-told ∙ ap told (none-least e) ∙ ap (λ (d : Desk). kept d (Refused 8)) (own-desk desk tree q h)
 
-  min-found : (k .c ≡ 0 → ⊥) → minOf desk ≡ kept desk (Least (k .least))
-  min-found n = min-told ∙ ap told (some-least n) ∙ ap (λ (d : Desk). kept d (Least (k .least))) (own-desk desk tree q h)
+  min-found : (k .c ≡ 0 → ⊥) → minOf desk ≡ kept desk (Least (k .least) 0)
+  unfolding wordsMoved sum
+  min-found n = min-told ∙ ap told (some-least n) ∙ ap (λ (d : Desk). kept d (Least (k .least) 0)) (own-desk desk tree q h)
 
   min-line : Played desk tree (some q) Min (record { turn = minOf desk; tree = tree })
   min-line = elim (dichotomy (eqb (k .c) 0)) [
@@ -138,7 +140,7 @@ module _ (desk : Desk) (tree : List ℕ) (q : Queue) (h : Holds desk tree q) whe
         record {
           held = some q;
           turns =
-              answered q (Least (k .least)) refl (ap (λ (t : Turn). t .reply) e) refl
+              answered q (Least (k .least) 0) refl (ap (λ (t : Turn). t .reply) e) refl
               (ap toldOf (sym (least-told k (head desk tree) (h .live) (h .ready) (omega (arith, n))) ∙ ap leastEvent (h .events)));
           keeps = rw e h;
         }

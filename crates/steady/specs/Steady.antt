@@ -9,9 +9,9 @@ use lib.ListN.{length}
 use Rattle.record.specs.declared.Record.{Record}
 use Rattle.path.specs.Sizes.{sizesOf}
 use Rattle.request.specs.Tables.{waits}
-use Rattle.card.specs.declared.Answer.{Answer}
-use Rattle.card.specs.declared.Answer.the-variants.{Started, Refused}
-use Rattle.card.specs.Answers.{numberOf}
+use Rattle.answers.specs.declared.Answer.{Answer}
+use Rattle.answers.specs.declared.Answer.the-variants.{Started, Refused}
+use Rattle.answers.specs.Answers.{numberOf}
 use Rattle.served.specs.Ready.{Ready}
 use Rattle.demands.specs.Queue.{Queue, Request, insert, findMin, extractMin, delete, nothing as silence, emptyQueue, reply, next}
 use Rattle.demands.specs.Says.{refOf, eventOf, says}

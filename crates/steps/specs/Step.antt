@@ -12,8 +12,8 @@ use Rattle.refusal.specs.Refusal.{firstGiven}
 use Rattle.card.specs.declared.Card.{Card}
 use Rattle.request.specs.declared.Waiting.{Waiting}
 use Rattle.request.specs.declared.Waiting.the-variants.{Insert as AskInsert, Extract as AskExtract, Delete as AskDelete}
-use Rattle.card.specs.declared.Answer.{Answer}
-use Rattle.card.specs.declared.Answer.the-variants.{Refused}
+use Rattle.answers.specs.declared.Answer.{Answer}
+use Rattle.answers.specs.declared.Answer.the-variants.{Refused}
 use Rattle.card.specs.declared.Done.{Done}
 use Rattle.card.specs.Answers.{orRefused}
 use Rattle.card.specs.Calls.{started, minTable, foundMin}

@@ -4,7 +4,7 @@ ghost use Rattle.steps.specs.Step.{unread, kept, told};
 use crate::Desk;
 use crate::Reply;
 use crate::Turn;
-use card::Answer;
+use answers::Answer;
 use card::Done;
 
 pub fn unread_by(desk: Desk) -> Turn

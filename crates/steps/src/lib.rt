@@ -3,7 +3,7 @@
 mod ends;
 mod room;
 
-use card::Answer;
+use answers::Answer;
 use card::Card;
 pub use ends::kept_by;
 pub use ends::told_by;

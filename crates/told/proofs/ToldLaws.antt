@@ -3,18 +3,14 @@ use Prim.Native.Nat.{ℕ, zero, suc}
 use mathlib.Core.List.{List}
 use mathlib.Core.Path.{_≡_, refl, sym, ap, _∙_}
 use native.Mathlib.Omega.{arith}
-use borrow.Author.Tests.{ne-eqb}
 use Rattle.card.specs.declared.Card.{Card}
 use Rattle.card.specs.declared.Done.{Done}
-use Rattle.card.specs.Answers.{numberOf, valuesOf, refused, orRefused, Answered}
+use Rattle.answers.specs.Answers.{numberOf, valuesOf}
+use Rattle.card.specs.Answers.{refused, orRefused, Answered}
 use Rattle.image.specs.Image.{imageOf}
-use Rattle.rack.specs.Refusals.{afterwards}
+use Rattle.refusal.specs.Refusal.{afterwards}
+use Rattle.refusal.proofs.RefusalLaws.{left-before}
 use Rattle.told.specs.Told.{Called, Settled}
-
--- ---- what stands after a refusal, and after none
-pub kept : {A : Type 0} (n : ℕ) (done before : A) → (n ≡ 0 → ⊥) → afterwards n done before ≡ before
-kept zero done before h = absurd (h refl)
-kept (suc n) done before h = refl
 
 -- ---- settled
 module _ (done : Done) (held told : List ℕ) (n : ℕ) (e : n ≡ numberOf (done .answer)) where
@@ -22,8 +18,8 @@ module _ (done : Done) (held told : List ℕ) (n : ℕ) (e : n ≡ numberOf (don
   settled-refused h =
       record {
         number = e;
-        card = rw (← e) (sym (kept n _ held h));
-        answer = rw (← e) (sym (kept n _ told h));
+        card = rw (← e) (sym (left-before n _ held h));
+        answer = rw (← e) (sym (left-before n _ told h));
       }
 
   pub settled-done :
@@ -56,6 +52,4 @@ pub card-left :
     → afterwards number (imageOf (done .card)) (imageOf k) ≡ imageOf (d .card)
 unfolding orRefused
 card-left k zero done d e = ap (λ (x : Done). imageOf (x .card)) (sym e)
-card-left k (suc number) done d e =
-    let f : d ≡ refused k (suc number) = e ∙ rw (ne-eqb (suc number) 0 (λ z. omega arith)) in
-    ap (λ (x : Done). imageOf (x .card)) (sym f)
+card-left k (suc number) done d e = ap (λ (x : Done). imageOf (x .card)) (sym e)

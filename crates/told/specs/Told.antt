@@ -4,9 +4,9 @@ use Prim.Native.Nat.{ℕ}
 use mathlib.Core.List.{List}
 use mathlib.Core.Path.{_≡_}
 use Rattle.card.specs.declared.Done.{Done}
-use Rattle.card.specs.Answers.{numberOf, valuesOf, noValues}
+use Rattle.answers.specs.Answers.{numberOf, valuesOf, noValues}
 use Rattle.image.specs.Image.{imageOf}
-use Rattle.rack.specs.Refusals.{afterwards}
+use Rattle.refusal.specs.Refusal.{afterwards}
 
 -- A call with this refusal, 0 for none, that comes to `done`: its number is returned; unless it is refused, the card's
 -- words are those of the new card, and the answer has the six values.

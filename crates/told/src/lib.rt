@@ -12,13 +12,13 @@ pub fn settle(done: Done, card: &mut [u64; 272], answer: &mut [u64; 6]) -> u64
     ensures { λ r. ⌜ Settled done (now (card .entry)) (now (answer .entry)) r (now (card .exit)) (now (answer .exit)) ⌝ }
 {
     let said = done.answer;
-    let number = values::number_of(said);
+    let number = answers::number_of(said);
     if number != 0 {
         return number;
     }
     let after = done.card;
     image::write(after, card);
-    *answer = values::values_of(said);
+    *answer = answers::values_of(said);
     number
 }
 

@@ -27,10 +27,12 @@ use Rattle.told.proofs.settle.Kinds as settle-kinds
 use Rattle.told.proofs.settle.Reads as settle
 use Rattle.told.proofs.tell.Kinds as tell-kinds
 use Rattle.told.proofs.tell.Reads as tell
-use Rattle.values.proofs.number_of.Kinds as number-of-kinds
-use Rattle.values.proofs.number_of.Reads as number-of
-use Rattle.values.proofs.values_of.Kinds as values-of-kinds
-use Rattle.values.proofs.values_of.Reads as values-of
+use Rattle.answers.proofs.number_of.Kinds as number-of-kinds
+use Rattle.answers.proofs.number_of.Reads as number-of
+use Rattle.answers.proofs.values_of.Kinds as values-of-kinds
+use Rattle.answers.proofs.values_of.Reads as values-of
+use Rattle.answers.proofs.answer_to.Kinds as answer-to-kinds
+use Rattle.answers.proofs.answer_to.Reads as answer-to
 use Rattle.held.proofs.card_of.Kinds as card-of-kinds
 use Rattle.held.proofs.card_of.Reads as card-of
 use Rattle.kinds.proofs.waiting_of.Kinds as waiting-of-kinds
@@ -103,6 +105,11 @@ pub one-tell : Determines 1 tell-kinds.ps tell-kinds.r tell.Asked tell.Learnt
 one-tell =
     one-answer 1 tell-kinds.ps tell-kinds.r tell.Asked tell.Learnt _ _
     (λ κs a ok x xs f p. (p .number, λ i. (tt, (p .answer i, tt))))
+
+pub one-answer-to : Determines 0 answer-to-kinds.ps answer-to-kinds.r answer-to.Asked answer-to.Learnt
+one-answer-to =
+    one-answer 0 answer-to-kinds.ps answer-to-kinds.r answer-to.Asked answer-to.Learnt _ _
+    (λ κs a ok x xs f p. (p, refl))
 
 pub one-number-of : Determines 0 number-of-kinds.ps number-of-kinds.r number-of.Asked number-of.Learnt
 one-number-of =

@@ -2,7 +2,7 @@
 use borrow.Author.Needs.{needs}
 use mathlib.Core.Path.{_≡_, sym, _∙_}
 use Rattle.rack.specs.Answers.{answerNumber}
-use Rattle.told.proofs.ToldLaws.{kept}
+use Rattle.refusal.proofs.RefusalLaws.{left-before}
 use Rattle.told.proofs.tell.Statement.{statement}
 use Rattle.told.proofs.tell.Tie as tie
 
@@ -16,7 +16,7 @@ returns-2 : tie.Need-returns-2
 returns-2 c =
     record {
       number = c .before .number .ensures;
-      answer = sym (kept (answerNumber (c .before .before .args .said)) _ _ (λ e. c .if1 .left (c .before .number .ensures ∙ e)));
+      answer = sym (left-before (answerNumber (c .before .before .args .said)) _ _ (λ e. c .if1 .left (c .before .number .ensures ∙ e)));
     }
 
 pub tell-spec : {M : Type 1} → statement M

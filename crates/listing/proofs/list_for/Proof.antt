@@ -2,9 +2,9 @@ use borrow.Author.Needs.{needs}
 use mathlib.Core.Path.{refl}
 use lib.ListN.{length}
 use Rattle.request.specs.declared.Waiting.the-variants.{Nothing, Insert, Extract, Delete}
-use Rattle.card.proofs.BeginLaws.{listable-for, names-for}
-use Rattle.card.proofs.calls.list_of.Statement.{statement}
-use Rattle.card.proofs.calls.list_of.Tie as tie
+use Rattle.listing.proofs.ListingLaws.{listable-for, names-for}
+use Rattle.listing.proofs.list_for.Statement.{statement}
+use Rattle.listing.proofs.list_for.Tie as tie
 
 enum-told : tie.Need-enum-told
 enum-told c = search needs
@@ -65,6 +65,6 @@ returns-4 c =
     let s = c .before .before .before .before .before .before .before .before .args in
     names-for (s .sizes) (s .least) (s .request) (Delete _ _) (c .before .before .before .before .before .request2 .given .1) _ _ _ (c .before .before .list-path2 .ensures)
 
-pub list-of-spec : {M : Type 1} → statement M
-list-of-spec =
+pub list-for-spec : {M : Type 1} → statement M
+list-for-spec =
     tie.close (tie.spec enum-told enum-known-request list-pair-requires enum-told-2 list-path-requires enum-known-request-2 list-path-requires-2 returns same-length returns-2 same-length-2 returns-3 same-length-3 returns-4)

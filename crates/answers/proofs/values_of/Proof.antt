@@ -3,8 +3,8 @@ use mathlib.Core.Bool.{Bool, true, false, cond}
 use mathlib.Core.Path.{_≡_, refl}
 use mir.Val.{boolByte}
 use borrow.Author.Needs.{needs}
-use Rattle.values.proofs.values_of.Statement.{statement}
-use Rattle.values.proofs.values_of.Tie as tie
+use Rattle.answers.proofs.values_of.Statement.{statement}
+use Rattle.answers.proofs.values_of.Tie as tie
 
 -- a Bool as a word is 1 or 0
 found-byte : (b : Bool) → boolByte b ≡ cond b 1 0
@@ -32,8 +32,8 @@ enum-known-said-4 c = search needs
 enum-known-said-5 : tie.Need-enum-known-said-5
 enum-known-said-5 c = search needs
 
-cast-t15 : tie.Need-cast-t15
-cast-t15 c = search needs
+cast-t16 : tie.Need-cast-t16
+cast-t16 c = search needs
 
 enum-told-3 : tie.Need-enum-told-3
 enum-told-3 c = search needs
@@ -73,7 +73,7 @@ values-of-spec =
     enum-known-said-3
     enum-known-said-4
     enum-known-said-5
-    cast-t15
+    cast-t16
     enum-told-3
     returns
     returns-2

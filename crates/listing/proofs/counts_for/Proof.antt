@@ -1,7 +1,7 @@
 use borrow.Author.Needs.{needs}
-use Rattle.request.specs.Tables.{countsFor}
-use Rattle.request.proofs.counts_for.Statement.{statement}
-use Rattle.request.proofs.counts_for.Tie as tie
+use Rattle.listing.specs.Listing.{countsFor}
+use Rattle.listing.proofs.counts_for.Statement.{statement}
+use Rattle.listing.proofs.counts_for.Tie as tie
 
 enum-told : tie.Need-enum-told
 enum-told c = search needs

@@ -2,8 +2,8 @@ use borrow.Author.Needs.{needs}
 use native.Mathlib.Omega.{arith}
 use native.Mathlib.Nat.{mul-le-mul-left}
 use Prim.Native.Nat.{_≤_, _*_, _+_}
-use Rattle.request.proofs.fetched_for.Statement.{statement}
-use Rattle.request.proofs.fetched_for.Tie as tie
+use Rattle.listing.proofs.fetched_for.Statement.{statement}
+use Rattle.listing.proofs.fetched_for.Tie as tie
 
 add-result : tie.Need-add-result
 add-result c = search needs
