@@ -1,6 +1,6 @@
 /* The card and the rack of a Path Oblivious Heap, for drivers in C.
  *
- * Every function is proved, on every input, to leave exactly what this page says. The words are the paper's: card, rack,
+ * Each function's contract, which this page puts in words, is proved for every input. The words are the paper's: card, rack,
  * bucket, leaf, label, stamp, least record. Link the archive that `rt staticlib driver` writes, target/staticlib/libdriver.a
  * (x86-64 Linux). Beyond memcpy and memset it calls nothing; it keeps nothing between calls and allocates nothing.
  *
@@ -19,6 +19,8 @@
  * POINTERS. A slice is a pointer and a count of 64-bit words. No pointer may be null, not even with a count of 0. All must be
  * aligned for uint64_t. What is written must not overlap anything else that is handed to the same call; the proofs take
  * that as given, and nothing checks it.
+ *
+ * THE STACK. A call keeps its scratches in locals. No proof bounds a stack, and too small a one ends the program.
  *
  * ONE REQUEST, from the card to the rack and back:
  *     begin on the card       -> the bucket list, with the two counts in the answer
