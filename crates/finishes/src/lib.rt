@@ -36,12 +36,7 @@ pub fn settle_request(
             second,
         } => {
             let stamp = Stamp(t);
-            let new = Record {
-                key: key,
-                value: value,
-                label: label,
-                stamp: stamp,
-            };
+            let new = Record::proper(key, value, label, stamp);
             insertion::settle_insertion(words, root, sizes, t, c, least, new, first, second)
         }
         Waiting::Extract => {
