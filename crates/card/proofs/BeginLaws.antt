@@ -137,10 +137,10 @@ pub least-proper : (k : Card) → Good k → (k .c ≡ 0 → ⊥) → isProper (
 unfolding oddLeast mayStand
 least-proper k g h = elim (dichotomy (isDummy (k .least))) [
   | inl f ↦
-      let o = rw (f, ne-eqb (k .c) 0 h) at (g .odd) in
+      let o = rw (f, ne-eqb (k .c) 0 h) at (g .parts .odd) in
       not-false _ o
   | inr t ↦
-      let o = rw t at (g .odd) in
+      let o = rw t at (g .parts .odd) in
       absurd (h (omega (arith, ltb-false 0 (k .c) (neither _ _ .0 o .0))))
 ]
 
@@ -157,7 +157,7 @@ pub listable : (k : Card) (w : Waiting) (room : ℕ) → Accepted k w room → L
 unfolding listOf
 listable k w room b =
     record {
-      height = in-range (k .sizes) (b .card .sizes) .tree .height;
+      height = in-range (k .sizes) (b .card .parts .sizes) .tree .height;
       leaves = leaves-within k w (b .card) (b .request);
       place = b .place;
     }

@@ -79,7 +79,7 @@ pub ready : (k : Card) (w : Waiting) (room : ℕ) → k .waiting ≡ w → first
 unfolding listOf
 ready k w room e f =
     let n = entered k room f in
-    let i = in-range (k .sizes) (n .card .sizes) in
+    let i = in-range (k .sizes) (n .card .parts .sizes) in
     let a : wordsAsked (k .sizes) (k .least .label) w ≤ room =
     subst (λ (v : Waiting). wordsAsked (k .sizes) (k .least .label) v ≤ room) e (n .words) in
     record {
@@ -91,10 +91,10 @@ ready k w room e f =
 -- what a finish asks of the card's parts
 parts-fit : (k : Card) → Good k → Parts (k .sizes) (k .t) (k .c)
 parts-fit k g =
-    let i = in-range (k .sizes) (g .sizes) in
+    let i = in-range (k .sizes) (g .parts .sizes) in
     record {
       sizes = record { height = i .tree .height; width = i .tree .slots .1; roots = i .roots .1 };
-      counts = (omega (arith, g .spent, i .most), omega (arith, g .live, i .most));
+      counts = (omega (arith, g .parts .spent, i .most), omega (arith, g .parts .live, i .most));
     }
 
 pub clock-fits : (k : Card) → Good k → k .t ≤ 4294967295

@@ -65,7 +65,7 @@ module _ (u : World) (q : Queue) (h : Holds u q) (roomy : leavesOf (u .card .siz
         | inl f ↦ f
         | inr t ↦
             let many = all-real (take (k .sizes .r) (k .root)) t in
-            absurd (omega (arith, g .few, g .live .0, less, many, length-take (k .sizes .r) (k .root), heap .places, most))
+            absurd (omega (arith, g .parts .few, g .parts .live .0, less, many, length-take (k .sizes .r) (k .root), heap .places, most))
       ]
 
 -- ---- tables that do not give 10
