@@ -1,6 +1,7 @@
 -- Laws of the demands that crates above cite.
 pub mod QueueLaws
 pub mod AnswerLaws
+pub mod RefusalsLaws
 pub mod StepLaws
 pub mod FinishLaws
 pub mod Demand2
