@@ -47,7 +47,7 @@ module _ (s : Sizes) (f : ℕ → ℕ) (below : (stamp : ℕ) → f stamp < leav
   pub agree : {u : World} {q p : Queue} {cs ds : List Call} → Twin s u q p cs ds → (v : World) → Pair s f below u v q p cs ds
       → Agree u v cs (labelled f (p .taken) ds)
   unfolding labelled
-  agree (ended i) v x = over (x .second .waiting)
+  agree (ended i) v x = over (x .second .holds .stands .waiting)
   agree {u} {q} {p} (looked i n tw) v x =
       let m = look-passes v (dressed f p) (x .second) (λ e. look-some u n (sym (same-c s f below i x) ∙ e)) in
       goes-on (look-seen v ∙ sym (look-seen u)) (look-well v m) (agree tw (step v findMin .world) (pair-look s f below x m))

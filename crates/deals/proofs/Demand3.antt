@@ -48,7 +48,7 @@ agree-ends {v = v} (goes-on {d = d} same well rest) n =
 -- ---- two sequences on fresh worlds
 module _ (s : Sizes) (ok : inRange s ≡ true) where
   fresh-idle : Idle (freshWorld s) emptyQueue
-  fresh-idle = record { holds = fresh-holds s ok; waiting = refl }
+  fresh-idle = record { sizes = s; holds = fresh-holds s ok }
 
   module _ (cs ds : List Call) (clear : clean (freshWorld s) cs ≡ true) (kinds : map kindOf ds ≡ map kindOf cs) (valid : Valid s emptyQueue ds) where
     side-by-side : Twin s (freshWorld s) emptyQueue emptyQueue cs ds

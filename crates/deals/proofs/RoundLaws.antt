@@ -9,10 +9,11 @@ use mathlib.Mathlib.Data.Bool.Basic.{dichotomy}
 use native.Mathlib.Omega.{arith}
 use lib.Dec.{eqb}
 use lib.ListN.{length, length-map}
-use borrow.Author.Tests.{eqb-true, eqb-false, ne-eqb}
+use borrow.Author.Tests.{eqb-true, eqb-false, ne-eqb, le-ltb}
 use Rattle.record.specs.Standing.{isProper}
 use Rattle.record.proofs.StandingLaws.{proper-true, known-below}
 use Rattle.record.proofs.ManyLaws.{every-each}
+use Rattle.path.specs.declared.sizes.Sizes.{Sizes}
 use Rattle.path.specs.Sizes.{leavesOf}
 use Rattle.lists.specs.declared.Listed.{Listed as Counts}
 use Rattle.lists.specs.BucketList.{noBuckets, fetchedFor}
@@ -42,10 +43,11 @@ use Rattle.served.proofs.CallLaws.{ready-card}
 use Rattle.demands.specs.Queue.{Event, Queue, Request, leastEvent, next, reply}
 use Rattle.demands.specs.World.{World, Asked, insert, extract, delete, Call, begin, finish, withdraw, findMin, Outcome, held, finishNumber, shown, step}
 use Rattle.demands.specs.Says.{eventOf, asks, says}
+use Rattle.demands.specs.Refusals.{wordsFor}
 use Rattle.demands.proofs.AnswerLaws.{least-told}
-use Rattle.demands.proofs.StepLaws.{Holds}
-use Rattle.demands.proofs.Demand2.{plays, finishes}
-use Rattle.demands.proofs.JobLaws.{passed, waits-now}
+use Rattle.demands.proofs.StepLaws.{Holds, Plays}
+use Rattle.demands.proofs.Demand2.{plays}
+use Rattle.demands.proofs.JobLaws.{passed, allowed}
 use Rattle.deals.specs.Trace.{storedBack, numberGiven, seen, askedFor}
 use Rattle.deals.specs.Sequences.{well}
 
@@ -114,39 +116,20 @@ module _ (u : World) {w : Waiting} (asked : Asked w) (places : List ℕ) where
     begin-well = rw passes
 
 -- ---- a finish
-finished-idle : (k : Card) (w : Waiting) (l : Left) → numberOf (finishedBy k w l .answer) ≡ 0 → finishedBy k w l .card .waiting ≡ Nothing
-unfolding finishedBy
-finished-idle k Nothing l e = absurd (omega arith)
-finished-idle k (Insert key value label first second) l e = refl
-finished-idle k Extract l e = refl
-finished-idle k (Delete label stamp) l e = refl
-
-passed-idle : (k : Card) (m : ℕ) (d : Done) → (numberOf (d .answer) ≡ 0 → d .card .waiting ≡ Nothing)
-    → numberOf (orRefused k m d .answer) ≡ 0 → orRefused k m d .card .waiting ≡ Nothing
-unfolding orRefused
-passed-idle k zero d h e = h e
-passed-idle k (suc m) d h e = absurd (omega arith)
-
 module _ (v : World) (words : List ℕ) (e : numberGiven (step v (finish words)) ≡ 0) where
   finish-seen : seen v (finish words) ≡ storedBack (held v)
   unfolding seen
   finish-seen = rw e
 
-  finish-idle : step v (finish words) .world .card .waiting ≡ Nothing
-  unfolding step orRefused
-  finish-idle =
-      passed-idle (v .card) (finishNumber v (shown v words)) (finished (v .card) (shown v words))
-      (finished-idle (v .card) (v .card .waiting) (leftBy (v .card) (v .card .waiting) (shown v words))) e
-
 -- ---- what holds between two requests
 pub record Idle (u : World) (q : Queue) : Type 0 where
-  pub holds : Holds u q
-  pub waiting : u .card .waiting ≡ Nothing
+  pub sizes : Sizes
+  pub holds : Holds sizes u Nothing q
 
 module _ (u : World) (q : Queue) (i : Idle u q) where
   pub idle-waits : waits (u .card .waiting) ≡ false
   unfolding waits
-  idle-waits = rw (i .waiting)
+  idle-waits = rw (i .holds .stands .waiting)
 
   pub idle-fine : badCard (u .card) ≡ false
   idle-fine = ready-card (u .card) (u .tree) (i .holds .stands .live) (i .holds .stands .ready)
@@ -184,11 +167,6 @@ module _ (u : World) (q : Queue) (i : Idle u q) where
       ]
 
 -- ---- FindMin
-kept-card : (k : Card) (m : ℕ) → orRefused k m (foundMin k) .card ≡ k
-unfolding orRefused
-kept-card k zero = refl
-kept-card k (suc m) = refl
-
 module _ (u : World) where
   abbrev m : ℕ
   m = firstGiven (minTable (u .card))
@@ -196,10 +174,6 @@ module _ (u : World) where
   look-number : numberGiven (step u findMin) ≡ m
   unfolding step
   look-number = number-given (u .card) m (foundMin (u .card)) refl
-
-  look-card : step u findMin .world .card ≡ u .card
-  unfolding step
-  look-card = kept-card (u .card) m
 
   pub look-well : numberGiven (step u findMin) ≡ 0 → well (step u findMin .answer) ≡ true
   unfolding step orRefused
@@ -224,11 +198,7 @@ module _ (u : World) where
     look-passes h = look-number ∙ rw (idle-fine u q i, idle-waits u q i, ne-eqb (u .card .c) 0 h)
 
     pub look-idle : numberGiven (step u findMin) ≡ 0 → Idle (step u findMin .world) q
-    look-idle e =
-        record {
-          holds = passed (plays u q (i .holds) findMin) e .1;
-          waiting = ap (λ (k : Card). k .waiting) look-card ∙ i .waiting;
-        }
+    look-idle e = record { sizes = i .sizes; holds = passed (plays (i .sizes) u Nothing q (i .holds) findMin) e .holds }
 
 -- ---- a request, begun and finished
 abbrev pub begunBy : World → {w : Waiting} → Asked w → List ℕ → World
@@ -259,16 +229,16 @@ module _ (u : World) (q : Queue) {w : Waiting} (asked : Asked w) (places words :
     pub sizes : done .world .card .sizes ≡ u .card .sizes
 
   module _ (i : Idle u q) (b : numberGiven (step u (begin asked places)) ≡ 0) where
-    abbrev begun-holds : Holds begun q
-    begun-holds = passed (plays u q (i .holds) (begin asked places)) b .1
+    -- its request is then pending
+    abbrev begun-holds : Holds (i .sizes) begun w q
+    begun-holds = passed (plays (i .sizes) u Nothing q (i .holds) (begin asked places)) b .holds
 
-    now-waits : begun .card .waiting ≡ w
-    now-waits = waits-now u asked places b
+    ending : Plays (i .sizes) begun w q (finish words) done
+    ending = plays (i .sizes) begun w q begun-holds (finish words)
 
     pub round : numberGiven done ≡ 0 → Round
     round f =
-        let answered = passed (plays begun q begun-holds (finish words)) f in
-        let is : asks (begun .card .waiting) ≡ asks w = ap asks now-waits in
+        let answered = passed ending f in
         record {
           before = i;
           request = accepted (u .card) w (length places) (sym (begin-number u asked places) ∙ b) .request;
@@ -276,11 +246,8 @@ module _ (u : World) (q : Queue) {w : Waiting} (asked : Asked w) (places words :
           numbered = f;
           first = begin-seen u asked places b;
           second = finish-seen begun words f ∙ ap storedBack (begin-held u asked places b);
-          said = answered .0 .same ∙ ap (reply q) is;
-          after = record {
-            holds = subst (λ (r : Request). Holds (done .world) (next q r)) is (answered .1);
-            waiting = finish-idle begun words f;
-          };
+          said = answered .answers .same;
+          after = record { sizes = i .sizes; holds = answered .holds };
           sizes = step-sizes begun (finish words) ∙ step-sizes u (begin asked places);
         }
 
@@ -292,10 +259,7 @@ module _ (u : World) (q : Queue) {w : Waiting} (asked : Asked w) (places words :
     asked-waits delete = refl
 
     pub round-passes : fetchedFor (u .card .sizes .z) (countsFor (u .card .sizes .h) w) ≤ length words → Round
+    unfolding firstGiven
     round-passes lent =
-        let k = withWaiting (u .card) w in
-        let height = in-range (u .card .sizes) (i .holds .stands .ready .heap .sizes) .tree .height .0 in
-        let enough : wordsNeeded k ≤ length words =
-        subst (λ (m : Counts). fetchedFor (u .card .sizes .z) m ≤ length words) (sym (counts-of k w height)) lent in
-        round (finishes begun q begun-holds words (ap waits now-waits ∙ asked-waits asked)
-        (subst (λ (k : Card). wordsNeeded k ≤ length words) (sym (begin-card u asked places b)) enough))
+        let enough : wordsFor (i .sizes) w ≤ length words = subst (λ (z : Sizes). wordsFor z w ≤ length words) (i .holds .stands .sizes) lent in
+        round (allowed ending (rw (asked-waits asked, le-ltb _ _ enough)) .answers .passes)

@@ -20,7 +20,6 @@ use Rattle.rack.proofs.ListedLaws.{listed-laid, laid-passes}
 use Rattle.rack.proofs.RefusalLaws.{refuses-words}
 use Rattle.card.specs.declared.Card.{Card}
 use Rattle.answers.specs.declared.Answer.the-variants.{Refused}
-use Rattle.answers.specs.Answers.{numberOf}
 use Rattle.card.specs.Answers.{orRefused}
 use Rattle.request.specs.Tables.{waits}
 use Rattle.card.specs.BadCard.{badCard}
@@ -192,11 +191,6 @@ module _ (k : Card) (tree places : List ℕ) (live : List Record) (r : Ready k t
 
     finished-plays : Played (finish words) (finishing u (rackNumber u words) (shown u words))
     finished-plays = subst (Played (finish words)) (sym finished-is) done-plays
-
-    -- with a request that waits and words enough, a finish is not refused
-    pub finish-answers : numberOf (step u (finish words) .answer) ≡ 0
-    unfolding step
-    finish-answers = ap (λ (o : Outcome). numberOf (o .answer)) finished-is ∙ finish-numbered k tree live r words busy
 
   pub plays-finish : (words : List ℕ) → Played (finish words) (step u (finish words))
   unfolding step

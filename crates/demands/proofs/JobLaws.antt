@@ -18,6 +18,7 @@ use Rattle.answers.specs.Answers.{numberOf}
 use Rattle.demands.specs.Queue.{Reference, Event, Queue, Request, Reply, emptyQueue, noDearer, told, extractMin, reply, next}
 use Rattle.demands.specs.World.{World, freshWorld, Asked, Call, begin, finish, Outcome, step}
 use Rattle.demands.specs.Says.{asks, says}
+use Rattle.demands.specs.Refusals.{refusalOf}
 use Rattle.demands.specs.Demand2.{Refuses}
 use Rattle.demands.specs.Sorted.{sorted, placed, extracts, Distinct, none as alone, more as apart}
 use Rattle.demands.specs.Jobs.{Job, job, Passes, none, more, answers, wanted, replies, Input, insertOf, made, eventsFrom}
@@ -30,6 +31,12 @@ pub passed : {s : Sizes} {u : World} {p : Waiting} {q : Queue} {c : Call} {o : O
     → Goes s u p q c o
 passed {s} {u} {p} {q} {c} {o} play e =
     ⊎-elim (λ (n : Refuses s u p q c o). absurd (n .some (sym (ap numberOf (n .given)) ∙ e))) (λ (a : Goes s u p q c o). a) (play .card)
+
+-- nor is one that queue and pending request do not refuse
+pub allowed : {s : Sizes} {u : World} {p : Waiting} {q : Queue} {c : Call} {o : Outcome} → Plays s u p q c o
+    → refusalOf s (u .card .root) p q c ≡ 0 → Goes s u p q c o
+allowed {s} {u} {p} {q} {c} {o} play e =
+    ⊎-elim (λ (n : Refuses s u p q c o). absurd (n .some (n .why ∙ e))) (λ (a : Goes s u p q c o). a) (play .card)
 
 pub jobs-answered : {s : Sizes} {u : World} {js : List Job} → Passes u js → (q : Queue) → Holds s u Nothing q
     → answers u js ≡ replies q (map wanted js)
