@@ -13,10 +13,12 @@ use Rattle.request.specs.declared.Waiting.the-variants.{Nothing}
 use Rattle.card.specs.Calls.{listOf}
 use Rattle.served.proofs.CallLaws.{start-ready}
 use Rattle.demands.specs.Queue.{Queue, emptyQueue, next}
-use Rattle.demands.specs.World.{World, freshWorld, Call, begin, finish, withdraw, findMin, step}
+use Rattle.demands.specs.World.{World, freshWorld, Call, begin, finish, withdraw, findMin, Outcome, step}
 use Rattle.demands.specs.Says.{pendingAfter, requestOf}
+use Rattle.demands.specs.Promised.{Carried, ended as none, called}
 use Rattle.demands.specs.Demand2.{Refuses, Run, ended, refused, answered, Demand2}
 use Rattle.demands.proofs.AnswerLaws.{queueOf}
+use Rattle.demands.proofs.PromisedLaws.{promised-step}
 use Rattle.demands.proofs.StepLaws.{Holds, Goes, Plays, plays-begin, plays-withdraw, plays-min}
 use Rattle.demands.proofs.FinishLaws.{plays-finish}
 
@@ -79,15 +81,16 @@ fresh-holds s ok =
     }
 
 -- ---- call after call
-pub follow : (s : Sizes) (cs : List Call) (u : World) (p : Waiting) (q : Queue) → Holds s u p q → Run s u p q cs
-follow s [] u p q h = ended (h .stands)
-follow s (c ∷ cs) u p q h =
-    let one = plays s u p q h c in
+pub follow : (s : Sizes) {u : World} {cs : List Call} {os : List Outcome} → Carried u cs os → (p : Waiting) (q : Queue) → Holds s u p q
+    → Run s u p q cs os
+follow s none p q h = ended (h .stands)
+follow s {u} (called {c} {o} {cs} {os} promised rest) p q h =
+    let one : Plays s u p q c o = subst (Plays s u p q c) (sym (promised-step promised)) (plays s u p q h c) in
     ⊎-elim
-    (λ (n : Refuses s u p q c (step u c)). refused (h .stands) (one .rack) n (follow s cs u p q h))
-    (λ (a : Goes s u p q c (step u c)).
-    answered (h .stands) (one .rack) (a .answers) (follow s cs (step u c .world) (pendingAfter p c) (next q (requestOf p c)) (a .holds)))
+    (λ (n : Refuses s u p q c o).
+    refused (h .stands) (one .rack) n (follow s rest p q (subst (λ (v : World). Holds s v p q) (sym (n .unchanged)) h)))
+    (λ (a : Goes s u p q c o). answered (h .stands) (one .rack) (a .answers) (follow s rest (pendingAfter p c) (next q (requestOf p c)) (a .holds)))
     (one .card)
 
 pub demand2 : Demand2
-demand2 s ok cs = follow s cs (freshWorld s) Nothing emptyQueue (fresh-holds s ok)
+demand2 s ok cs os honest = follow s honest Nothing emptyQueue (fresh-holds s ok)

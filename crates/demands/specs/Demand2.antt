@@ -1,7 +1,7 @@
--- Demand 2, over the definitions that the contracts of `card` and `rack` cite: every list of calls, from a fresh card and a
--- filled tree, is answered as the plain queue answers it. Proved as `demand2` in proofs/Demand2.antt. Assumes nothing.
+-- Demand 2, of whatever the contracts of `card` and `rack` promise: every list of calls, from a fresh card and a filled tree, is
+-- answered as the plain queue answers it, if the rack is honest (`HonestRack`). Proved as `demand2` in proofs/Demand2.antt.
 -- What a run is judged by is worked out from the sizes and the calls alone, never from the card: the pending request p and the
--- queue q. Only Overflow asks the card, for its root's slots.
+-- queue q. Only Overflow asks the card, for its root's slots. Assumes nothing.
 use Prim.Native.Nat.{ℕ, _<_}
 use mathlib.Core.Bool.{true}
 use mathlib.Core.List.{List, [], _∷_, map}
@@ -17,9 +17,10 @@ use Rattle.answers.specs.declared.Answer.the-variants.{Refused}
 use Rattle.answers.specs.Answers.{numberOf}
 use Rattle.served.specs.Ready.{Ready}
 use Rattle.demands.specs.Queue.{Queue, emptyQueue, reply, next}
-use Rattle.demands.specs.World.{World, freshWorld, Call, begin, finish, withdraw, findMin, Outcome, step}
+use Rattle.demands.specs.World.{World, freshWorld, Call, begin, finish, withdraw, findMin, Outcome}
 use Rattle.demands.specs.Says.{eventOf, pendingAfter, requestOf, says}
 use Rattle.demands.specs.Refusals.{wordsFor, refusalOf}
+use Rattle.demands.specs.Promised.{Carried}
 
 -- ---- before and after every call
 -- The card has the sizes that it was started with, and the pending request waits on it. Card and tree hold a good heap (`Ready`,
@@ -63,14 +64,23 @@ pub record RackPasses (s : Sizes) (p : Waiting) (c : Call) (o : Outcome) : Type 
   pub fetch : (o .fetch ≡ 0) ⊎ ((o .fetch ≡ 11) × TooFew s p c)
   pub store : o .store ≡ 0
 
--- ---- every list of calls, one after the other
-pub data Run (s : Sizes) : World → Waiting → Queue → List Call → Type 0 where
-  ended : {u : World} {p : Waiting} {q : Queue} → Stands s u p q → Run s u p q []
-  refused : {u : World} {p : Waiting} {q : Queue} {c : Call} {cs : List Call} → Stands s u p q → RackPasses s p c (step u c)
-      → Refuses s u p q c (step u c) → Run s u p q cs → Run s u p q (c ∷ cs)
-  answered : {u : World} {p : Waiting} {q : Queue} {c : Call} {cs : List Call} → Stands s u p q → RackPasses s p c (step u c)
-      → Answers s u p q c (step u c) → Run s (step u c .world) (pendingAfter p c) (next q (requestOf p c)) cs → Run s u p q (c ∷ cs)
+-- ---- every list of calls, one after the other, with what comes of each
+pub data Run (s : Sizes) : World → Waiting → Queue → List Call → List Outcome → Type 0 where
+  ended : {u : World} {p : Waiting} {q : Queue} → Stands s u p q → Run s u p q [] []
+  refused : {u : World} {p : Waiting} {q : Queue} {c : Call} {o : Outcome} {cs : List Call} {os : List Outcome} → Stands s u p q
+      → RackPasses s p c o → Refuses s u p q c o → Run s (o .world) p q cs os → Run s u p q (c ∷ cs) (o ∷ os)
+  answered : {u : World} {p : Waiting} {q : Queue} {c : Call} {o : Outcome} {cs : List Call} {os : List Outcome} → Stands s u p q
+      → RackPasses s p c o → Answers s u p q c o → Run s (o .world) (pendingAfter p c) (next q (requestOf p c)) cs os
+      → Run s u p q (c ∷ cs) (o ∷ os)
+
+-- The premise that the rack is honest, for "An older true copy of the tree can't be told apart": what comes of each call is what the
+-- contracts promise on the world that the call before it left (`Carried`, Promised.antt). So each fetch reads the tree that the last
+-- store left, and "this store is done before the next begin".
+abbrev pub HonestRack : Sizes → List Call → List Outcome → Type 0
+HonestRack s cs os = Carried (freshWorld s) cs os
 
 -- Overflow ends nothing: it is refused like any other, and the run goes on.
 abbrev pub Demand2 : Type 0
-Demand2 = (s : Sizes) → inRange s ≡ true → (cs : List Call) → Run s (freshWorld s) Nothing emptyQueue cs
+Demand2 =
+    (s : Sizes) → inRange s ≡ true → (cs : List Call) (os : List Outcome) → HonestRack s cs os
+    → Run s (freshWorld s) Nothing emptyQueue cs os
