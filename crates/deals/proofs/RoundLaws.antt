@@ -43,7 +43,7 @@ use Rattle.served.proofs.CallLaws.{ready-card}
 use Rattle.demands.specs.Queue.{Event, Queue, Request, leastEvent, next, reply}
 use Rattle.demands.specs.World.{World, Asked, insert, extract, delete, Call, begin, finish, withdraw, findMin, Outcome, held, finishNumber, shown, step}
 use Rattle.demands.specs.Says.{eventOf, asks, says}
-use Rattle.demands.specs.Refusals.{wordsFor}
+use Rattle.demands.specs.Refusals.{wordsToFetch}
 use Rattle.demands.proofs.AnswerLaws.{least-told}
 use Rattle.demands.proofs.StepLaws.{Holds, Plays}
 use Rattle.demands.proofs.Demand2.{plays}
@@ -261,5 +261,5 @@ module _ (u : World) (q : Queue) {w : Waiting} (asked : Asked w) (places words :
     pub round-passes : fetchedFor (u .card .sizes .z) (countsFor (u .card .sizes .h) w) ≤ length words → Round
     unfolding firstGiven
     round-passes lent =
-        let enough : wordsFor (i .sizes) w ≤ length words = subst (λ (z : Sizes). wordsFor z w ≤ length words) (i .holds .stands .sizes) lent in
+        let enough : wordsToFetch (i .sizes) w ≤ length words = subst (λ (z : Sizes). wordsToFetch z w ≤ length words) (i .holds .stands .sizes) lent in
         round (allowed ending (rw (asked-waits asked, le-ltb _ _ enough)) .answers .passes)

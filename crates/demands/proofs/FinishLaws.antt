@@ -36,7 +36,7 @@ use Rattle.demands.specs.Queue.{Queue}
 use Rattle.demands.specs.World.{World, Call, finish, Outcome, finishNumber, rackNumber, shown, finishing, step}
 use Rattle.demands.specs.Demand2.{TooFew}
 use Rattle.demands.proofs.AnswerLaws.{queueOf, finish-says, finish-numbered, finish-card, next-events, next-taken}
-use Rattle.demands.proofs.RefusalsLaws.{words-for, entry-number}
+use Rattle.demands.proofs.RefusalsLaws.{words-to-fetch, entry-number}
 use Rattle.demands.proofs.StepLaws.{Plays, refused-as}
 
 -- ---- the card's number, given or not
@@ -81,7 +81,7 @@ module _ (k : Card) (tree places : List ℕ) (live : List Record) (r : Ready k t
     | inl f ↦ inl (rack-passes ws (ltb-false _ _ f))
     | inr t ↦
         let few = ltb-true _ _ t in
-        inr (rack-short ws few, subst (λ (n : ℕ). length ws < n) (words-for k tree live r) few)
+        inr (rack-short ws few, subst (λ (n : ℕ). length ws < n) (words-to-fetch k tree live r) few)
   ]
 
   -- ---- none waits: 3

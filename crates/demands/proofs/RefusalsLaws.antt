@@ -27,7 +27,7 @@ use Rattle.served.proofs.CallLaws.{ready-card}
 use Rattle.demands.specs.Queue.{Queue}
 use Rattle.demands.specs.World.{Asked, Call, begin, finish, withdraw, findMin}
 use Rattle.demands.specs.Says.{eventOf}
-use Rattle.demands.specs.Refusals.{wordsFor, refusalOf}
+use Rattle.demands.specs.Refusals.{wordsToFetch, refusalOf}
 use Rattle.demands.proofs.AnswerLaws.{queueOf}
 
 -- ---- 11 or less
@@ -69,8 +69,8 @@ module _ (k : Card) (tree : List ℕ) (live : List Record) (r : Ready k tree liv
   height = in-range (k .sizes) (r .heap .sizes) .tree .height .0
 
   -- "a lent slice too short", by the height and the request alone
-  pub words-for : wordsNeeded k ≡ wordsFor (k .sizes) (k .waiting)
-  words-for =
+  pub words-to-fetch : wordsNeeded k ≡ wordsToFetch (k .sizes) (k .waiting)
+  words-to-fetch =
       let counts = counts-of k (k .waiting) height in
       λ i. fetchedFor (k .sizes .z) (counts i)
 
@@ -98,7 +98,7 @@ module _ (k : Card) (tree : List ℕ) (live : List Record) (r : Ready k tree liv
   pub entry-number : (words : List ℕ) → firstGiven (entryTable k (length words)) ≡ told (finish words)
   unfolding entryTable
   entry-number words =
-      let needed = words-for in
+      let needed = words-to-fetch in
       behind _ ∙ λ i. firstGiven (row 3 (not (waits (k .waiting))) ∷ row 11 (ltb (length words) (needed i)) ∷ [])
 
   pub withdraw-number : firstGiven (withdrawTable k) ≡ told withdraw

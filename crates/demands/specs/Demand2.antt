@@ -19,7 +19,7 @@ use Rattle.served.specs.Ready.{Ready}
 use Rattle.demands.specs.Queue.{Queue, emptyQueue, reply, next}
 use Rattle.demands.specs.World.{World, freshWorld, Call, begin, finish, withdraw, findMin, Outcome}
 use Rattle.demands.specs.Says.{eventOf, pendingAfter, requestOf, says}
-use Rattle.demands.specs.Refusals.{wordsFor, refusalOf}
+use Rattle.demands.specs.Refusals.{wordsToFetch, refusalOf}
 use Rattle.demands.specs.Promised.{Carried}
 
 -- ---- before and after every call
@@ -55,7 +55,7 @@ module _ (s : Sizes) (u : World) (p : Waiting) (q : Queue) (c : Call) (o : Outco
 -- the words lent to a finish are fewer than the pending request needs
 abbrev pub TooFew : Sizes → Waiting → Call → Type 0
 TooFew s p (begin asked places) = ⊥
-TooFew s p (finish words) = length words < wordsFor s p
+TooFew s p (finish words) = length words < wordsToFetch s p
 TooFew s p withdraw = ⊥
 TooFew s p findMin = ⊥
 

@@ -16,8 +16,8 @@ use Rattle.demands.specs.Queue.{Queue}
 use Rattle.demands.specs.World.{Call, begin, finish, withdraw, findMin}
 
 -- the words that a finish of this request needs
-abbrev pub wordsFor : Sizes → Waiting → ℕ
-wordsFor s p = fetchedFor (s .z) (countsFor (s .h) p)
+abbrev pub wordsToFetch : Sizes → Waiting → ℕ
+wordsToFetch s p = fetchedFor (s .z) (countsFor (s .h) p)
 
 -- Of the card only the root's slots count, for "Insert, every root slot real".
 module _ (s : Sizes) (root : List Record) (p : Waiting) (q : Queue) where
@@ -25,7 +25,7 @@ module _ (s : Sizes) (root : List Record) (p : Waiting) (q : Queue) where
   refusals (begin {w} asked places) =
       row 2 (waits p)
       ∷ (requestRows s (q .taken) (length (q .events)) root w ++ (row 11 (ltb (length places) (placesFor (s .h) w)) ∷ []))
-  refusals (finish words) = row 3 (not (waits p)) ∷ row 11 (ltb (length words) (wordsFor s p)) ∷ []
+  refusals (finish words) = row 3 (not (waits p)) ∷ row 11 (ltb (length words) (wordsToFetch s p)) ∷ []
   refusals withdraw = row 3 (not (waits p)) ∷ []
   refusals findMin = row 2 (waits p) ∷ row 8 (eqb (length (q .events)) 0) ∷ []
 
