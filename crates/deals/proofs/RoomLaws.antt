@@ -1,6 +1,6 @@
 -- With N slots in the root or more, no list of calls ever overflows, whatever the labels: the root then has more slots than there
 -- are live events when an Insert is taken. So there are sizes for which the same traces follow. Assumes nothing.
-use Prim.Native.Nat.{ℕ, zero, suc, _≤_}
+use Prim.Native.Nat.{ℕ, suc, _≤_}
 use mathlib.Core.Bool.{Bool, true, false, not}
 use mathlib.Core.List.{List, [], _∷_, _++_}
 use mathlib.Core.Logic.{inl, inr, ⊎-elim}

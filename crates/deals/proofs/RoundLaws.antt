@@ -15,9 +15,7 @@ use Rattle.record.proofs.StandingLaws.{proper-true, known-below}
 use Rattle.record.proofs.ManyLaws.{every-each}
 use Rattle.path.specs.declared.sizes.Sizes.{Sizes}
 use Rattle.path.specs.Sizes.{leavesOf}
-use Rattle.lists.specs.declared.Listed.{Listed as Counts}
 use Rattle.lists.specs.BucketList.{noBuckets, fetchedFor}
-use Rattle.path.proofs.SizesLaws.{in-range}
 use Rattle.refusal.specs.Refusal.{firstGiven}
 use Rattle.refusal.proofs.RefusalLaws.{none-given}
 use Rattle.judge.specs.BadParts.{stampOf}
@@ -36,12 +34,12 @@ use Rattle.card.specs.Tables.{requestTable}
 use Rattle.card.specs.BadCard.{badCard}
 use Rattle.listing.specs.Listing.{countsFor}
 use Rattle.card.specs.Calls.{listOf, beginTable, begun as begunDone, minTable, foundMin, withWaiting}
-use Rattle.card.specs.Finish.{leftBy, finishedBy, finished, wordsNeeded}
+use Rattle.card.specs.Finish.{leftBy, finishedBy, finished}
 use Rattle.card.proofs.AnswerLaws.{number-given}
-use Rattle.card.proofs.BeginLaws.{accepted, counts-of, request-refused, room-enough}
+use Rattle.card.proofs.BeginLaws.{accepted, request-refused, room-enough}
 use Rattle.served.proofs.CallLaws.{ready-card}
-use Rattle.demands.specs.Queue.{Event, Queue, Request, leastEvent, next, reply}
-use Rattle.demands.specs.World.{World, Asked, insert, extract, delete, Call, begin, finish, withdraw, findMin, Outcome, held, finishNumber, shown, step}
+use Rattle.demands.specs.Queue.{Event, Queue, leastEvent, next, reply}
+use Rattle.demands.specs.World.{World, Asked, insert, extract, delete, Call, begin, finish, withdraw, findMin, Outcome, held, shown, step}
 use Rattle.demands.specs.Says.{eventOf, asks, says}
 use Rattle.demands.specs.Refusals.{wordsToFetch}
 use Rattle.demands.proofs.AnswerLaws.{least-told}

@@ -1,5 +1,5 @@
--- What each of two sequences side by side takes out of its plain queue is there, and both queues stay of one length. Assumes
--- nothing.
+-- What each of two sequences side by side takes out of its plain queue is there, and both queues stay of one length.
+-- Assumes nothing.
 use Prim.Native.Nat.{ℕ, suc, _-_, _<_, _≤_}
 use mathlib.Core.Bool.{true}
 use mathlib.Core.List.{List, [], _∷_, map, List·Memᴰ, List·Memᴰ·head, List·Memᴰ·tail}

@@ -1,6 +1,6 @@
 -- Demand 2, proved: specs/Demand2.antt. Assumes nothing.
 use mathlib.Core.Bool.{true}
-use mathlib.Core.List.{List, [], _∷_}
+use mathlib.Core.List.{List, []}
 use mathlib.Core.Logic.{⊎-elim}
 use mathlib.Core.Path.{_≡_, refl, sym, subst}
 use lib.ListN.{length}

@@ -16,7 +16,7 @@ use Rattle.request.specs.declared.Waiting.{Waiting}
 use Rattle.request.specs.declared.Waiting.the-variants.{Nothing}
 use Rattle.answers.specs.Answers.{numberOf}
 use Rattle.demands.specs.Queue.{Reference, Event, Queue, Request, Reply, emptyQueue, noDearer, told, extractMin, reply, next}
-use Rattle.demands.specs.World.{World, freshWorld, Asked, Call, begin, finish, Outcome, step}
+use Rattle.demands.specs.World.{World, freshWorld, Call, begin, finish, Outcome, step}
 use Rattle.demands.specs.Says.{asks, says}
 use Rattle.demands.specs.Refusals.{refusalOf}
 use Rattle.demands.specs.Demand2.{Refuses}
