@@ -1,35 +1,33 @@
 -- With N slots in the root or more, no list of calls ever overflows, whatever the labels: the root then has more slots than there
 -- are live events when an Insert is taken. So there are sizes for which the same traces follow. Assumes nothing.
 use Prim.Native.Nat.{ℕ, suc, _≤_}
-use mathlib.Core.Bool.{Bool, true, false, not}
-use mathlib.Core.List.{List, [], _∷_, _++_}
+use mathlib.Core.Bool.{true, false, not, true≢false}
+use mathlib.Core.List.{List, [], _∷_}
 use mathlib.Core.Logic.{inl, inr, ⊎-elim}
 use mathlib.Core.Path.{_≡_, refl, sym, ap, _∙_, subst}
 use mathlib.Mathlib.Data.Bool.Basic.{dichotomy}
 use native.Mathlib.Omega.{arith}
-use lib.Dec.{eqb}
 use lib.ListN.{length, take, length-take}
-use borrow.Author.Tests.{eqb-false, ne-eqb}
+use borrow.Author.Tests.{ne-eqb}
 use Rattle.record.specs.declared.Record.{Record}
 use Rattle.record.specs.Standing.{isDummy}
 use Rattle.record.specs.Many.{every, reals}
 use Rattle.path.specs.declared.sizes.Sizes.{Sizes}
 use Rattle.path.specs.Sizes.{leavesOf, inRange}
 use Rattle.path.proofs.SizesLaws.{in-range}
-use Rattle.refusal.specs.Refusal.{Refusal, row, firstGiven}
 use Rattle.root.specs.Root.{rootFull}
 use Rattle.card.specs.declared.Card.{Card}
 use Rattle.request.specs.declared.Waiting.{Waiting}
-use Rattle.request.specs.declared.Waiting.the-variants.{Nothing, Insert, Extract, Delete}
+use Rattle.request.specs.declared.Waiting.the-variants.{Nothing}
 use Rattle.answers.specs.Answers.{numberOf}
-use Rattle.request.specs.Tables.{insertRows, extractRows, deleteRows, requestRows}
 use Rattle.card.proofs.GoodLaws.{good}
 use Rattle.served.proofs.CallLaws.{ready-card}
 use Rattle.demands.specs.Queue.{Queue, emptyQueue, next}
-use Rattle.demands.specs.World.{World, freshWorld, Call, begin, finish, withdraw, findMin, step}
+use Rattle.demands.specs.World.{World, freshWorld, Call, step}
 use Rattle.demands.specs.Says.{pendingAfter, requestOf}
-use Rattle.demands.specs.Refusals.{refusals}
+use Rattle.demands.specs.Refusals.{refusalOf}
 use Rattle.demands.specs.Demand2.{Refuses}
+use Rattle.demands.proofs.RefusalsLaws.{refusal-is}
 use Rattle.demands.proofs.StepLaws.{Holds, Goes}
 use Rattle.demands.proofs.StandsLaws.{stands-plainly}
 use Rattle.demands.proofs.Demand2.{plays, fresh-holds}
@@ -69,48 +67,15 @@ module _ (s : Sizes) (u : World) (p : Waiting) (q : Queue) (h : Holds s u p q) (
             absurd (omega (arith, few, live, less, c, many, length-take (s .r) (k .root), heap .places, place))
       ]
 
--- ---- tables that do not give 10
-data Other : List Refusal → Type 0 where
-  none : Other []
-  more : (n : ℕ) {b : Bool} {xs : List Refusal} → (n ≡ 10 → ⊥) → Other xs → Other (row n b ∷ xs)
-  past : (n : ℕ) {b : Bool} {xs : List Refusal} → b ≡ false → Other xs → Other (row n b ∷ xs)
-  stop : (n : ℕ) {b : Bool} {xs : List Refusal} → (n ≡ 10 → ⊥) → b ≡ true → Other (row n b ∷ xs)
-
-other-ten : {xs : List Refusal} → Other xs → firstGiven xs ≡ 10 → ⊥
-unfolding firstGiven
-other-ten none e = omega arith
-other-ten (more n {b = true} h t) e = h e
-other-ten (more n {b = false} h t) e = other-ten t e
-other-ten (past n f t) e = other-ten t (rw f at e)
-other-ten (stop n h b) e = h (rw b at e)
-
--- ---- a call that does not overflow
-module _ (s : Sizes) (u : World) (p : Waiting) (q : Queue) (h : Holds s u p q) (roomy : leavesOf (s .h) ≤ s .r) where
-  -- with N events live 9 is given, and with fewer the root is not full
-  full-other : {xs : List Refusal} → Other xs
-      → Other (row 9 (eqb (length (q .events)) (leavesOf (s .h))) ∷ row 10 (rootFull (s .r) (u .card .root)) ∷ xs)
-  full-other t = elim (dichotomy (eqb (length (q .events)) (leavesOf (s .h)))) [
-    | inr b ↦ stop 9 (λ e. omega arith) b
-    | inl f ↦ more 9 (λ e. omega arith) (past 10 (not-full s u p q h roomy (eqb-false _ _ f)) t)
-  ]
-
-  request-other : (w : Waiting) {xs : List Refusal} → Other xs → Other (requestRows s (q .taken) (length (q .events)) (u .card .root) w ++ xs)
-  unfolding requestRows insertRows extractRows deleteRows
-  request-other Nothing t = t
-  request-other (Insert key value label first second) t =
-      more 4 (λ e. omega arith) (more 5 (λ e. omega arith) (more 6 (λ e. omega arith) (full-other t)))
-  request-other Extract t = more 4 (λ e. omega arith) (more 8 (λ e. omega arith) t)
-  request-other (Delete label stamp) t = more 4 (λ e. omega arith) (more 6 (λ e. omega arith) (more 7 (λ e. omega arith) t))
-
-  call-other : (c : Call) → Other (refusals s (u .card .root) p q c)
-  call-other (begin {w} asked places) = more 2 (λ e. omega arith) (request-other w (more 11 (λ e. omega arith) none))
-  call-other (finish words) = more 3 (λ e. omega arith) (more 11 (λ e. omega arith) none)
-  call-other withdraw = more 3 (λ e. omega arith) none
-  call-other findMin = more 2 (λ e. omega arith) (more 8 (λ e. omega arith) none)
+  -- a call that does not overflow
+  not-ten : (c : Call) → refusalOf s (k .root) p q c ≡ 10 → ⊥
+  not-ten =
+      refusal-is s (k .root) p q (λ n. n ≡ 10 → ⊥) (λ e. omega arith) (λ n l m e. omega arith)
+      (λ less full e. true≢false (sym full ∙ not-full less)) (λ e. omega arith)
 
   step-ten : (c : Call) → numberGiven (step u c) ≡ 10 → ⊥
   step-ten c e =
-      ⊎-elim (λ (n : Refuses s u p q c (step u c)). other-ten (call-other c) (sym (n .why) ∙ sym (ap numberOf (n .given)) ∙ e))
+      ⊎-elim (λ (n : Refuses s u p q c (step u c)). not-ten c (sym (n .why) ∙ sym (ap numberOf (n .given)) ∙ e))
       (λ (a : Goes s u p q c (step u c)). omega (arith, a .answers .passes, e)) (plays s u p q h c .card)
 
 -- ---- every list of calls

@@ -1,7 +1,7 @@
 -- On a ready card each table of the card gives the number that the pending request and the plain queue tell, and it is 11 or less.
 -- Assumes nothing.
 use Prim.Native.Nat.{ℕ, _≤_}
-use mathlib.Core.Bool.{Bool, true, false, not}
+use mathlib.Core.Bool.{true, false, not}
 use mathlib.Core.List.{List, [], _∷_, _++_, map}
 use mathlib.Core.Path.{_≡_, sym, _∙_}
 use native.Mathlib.Omega.{arith}
@@ -9,12 +9,15 @@ use lib.Dec.{ltb, eqb}
 use lib.ListN.{length, length-map}
 use Rattle.record.specs.declared.Record.{Record}
 use Rattle.path.specs.declared.sizes.Sizes.{Sizes}
+use Rattle.path.specs.Sizes.{leavesOf}
 use Rattle.path.proofs.SizesLaws.{in-range}
 use Rattle.lists.specs.BucketList.{numbers, fetchedFor}
 use Rattle.refusal.specs.Refusal.{Refusal, row, firstGiven}
+use Rattle.refusal.proofs.RefusalLaws.{Rows, none, next, first-of, rows-append}
+use Rattle.root.specs.Root.{rootFull}
 use Rattle.request.specs.declared.Waiting.{Waiting}
-use Rattle.request.specs.declared.Waiting.the-variants.{Nothing, Insert, Extract, Delete}
-use Rattle.request.specs.Tables.{insertRows, extractRows, deleteRows, requestRows, waits}
+use Rattle.request.specs.Tables.{requestRows, waits}
+use Rattle.request.proofs.RequestLaws.{request-rows}
 use Rattle.listing.specs.Listing.{placesFor}
 use Rattle.listing.proofs.ListingLaws.{places-for}
 use Rattle.card.specs.declared.Card.{Card}
@@ -27,35 +30,32 @@ use Rattle.served.proofs.CallLaws.{ready-card}
 use Rattle.demands.specs.Queue.{Queue}
 use Rattle.demands.specs.World.{Asked, Call, begin, finish, withdraw, findMin}
 use Rattle.demands.specs.Says.{eventOf}
-use Rattle.demands.specs.Refusals.{wordsToFetch, refusalOf}
+use Rattle.demands.specs.Refusals.{wordsToFetch, refusals, refusalOf}
 use Rattle.demands.proofs.AnswerLaws.{queueOf}
 
--- ---- 11 or less
-data Low : List Refusal → Type 0 where
-  none : Low []
-  more : (n : ℕ) {b : Bool} {xs : List Refusal} → n ≤ 11 → Low xs → Low (row n b ∷ xs)
-
-low-most : {xs : List Refusal} → Low xs → firstGiven xs ≤ 11
-unfolding firstGiven
-low-most none = omega arith
-low-most (more n {b = true} h t) = h
-low-most (more n {b = false} h t) = low-most t
-
-request-low : (s : Sizes) (t c : ℕ) (root : List Record) (w : Waiting) {xs : List Refusal} → Low xs → Low (requestRows s t c root w ++ xs)
-unfolding requestRows insertRows extractRows deleteRows
-request-low s t c root Nothing l = l
-request-low s t c root (Insert key value label first second) l =
-    more 4 (omega arith) (more 5 (omega arith) (more 6 (omega arith) (more 9 (omega arith) (more 10 (omega arith) l))))
-request-low s t c root Extract l = more 4 (omega arith) (more 8 (omega arith) l)
-request-low s t c root (Delete label stamp) l = more 4 (omega arith) (more 6 (omega arith) (more 7 (omega arith) l))
-
+-- ---- the numbers that can be given: 2 to 9, 11, and 10 where fewer than N are live and the root is full
 module _ (s : Sizes) (root : List Record) (p : Waiting) (q : Queue) where
+  module _ (P : ℕ → Type 0) (none-given : P 0) (low : (n : ℕ) → 2 ≤ n → n ≤ 9 → P n)
+      (over : (length (q .events) ≡ leavesOf (s .h) → ⊥) → rootFull (s .r) root ≡ true → P 10) (short : P 11) where
+    abbrev two : P 2
+    two = low 2 (omega arith) (omega arith)
+
+    abbrev three : P 3
+    three = low 3 (omega arith) (omega arith)
+
+    refusal-rows : (c : Call) → Rows P (refusals s root p q c)
+    refusal-rows (begin {w} asked places) =
+        let own = request-rows s (q .taken) (length (q .events)) root P (λ n l m. low n (omega arith) m) over w in
+        next 2 two (rows-append own (next 11 short none))
+    refusal-rows (finish words) = next 3 three (next 11 short none)
+    refusal-rows withdraw = next 3 three none
+    refusal-rows findMin = next 2 two (next 8 (low 8 (omega arith) (omega arith)) none)
+
+    pub refusal-is : (c : Call) → P (refusalOf s root p q c)
+    refusal-is c = first-of none-given (refusal-rows c)
+
   pub refusal-most : (c : Call) → refusalOf s root p q c ≤ 11
-  refusal-most (begin {w} asked places) =
-      low-most (more 2 (omega arith) (request-low s _ _ root w (more 11 (omega arith) none)))
-  refusal-most (finish words) = low-most (more 3 (omega arith) (more 11 (omega arith) none))
-  refusal-most withdraw = low-most (more 3 (omega arith) none)
-  refusal-most findMin = low-most (more 2 (omega arith) (more 8 (omega arith) none))
+  refusal-most = refusal-is (λ n. n ≤ 11) (omega arith) (λ n l m. omega arith) (λ f e. omega arith) (omega arith)
 
 -- ---- the card's tables
 module _ (k : Card) (tree : List ℕ) (live : List Record) (r : Ready k tree live) where
