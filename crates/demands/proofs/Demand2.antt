@@ -13,12 +13,12 @@ use Rattle.request.specs.declared.Waiting.the-variants.{Nothing}
 use Rattle.card.specs.Calls.{listOf}
 use Rattle.served.proofs.CallLaws.{start-ready}
 use Rattle.demands.specs.Queue.{Queue, emptyQueue, next}
-use Rattle.demands.specs.World.{World, freshWorld, Call, begin, finish, withdraw, findMin, Outcome, step}
+use Rattle.demands.specs.World.{World, freshWorld, Call, begin, finish, withdraw, findMin, Outcome, step, outcomes}
 use Rattle.demands.specs.Says.{pendingAfter, requestOf}
 use Rattle.demands.specs.Promised.{Carried, ended as none, called}
 use Rattle.demands.specs.Demand2.{Refuses, Run, ended, refused, answered, Demand2}
 use Rattle.demands.proofs.AnswerLaws.{queueOf}
-use Rattle.demands.proofs.PromisedLaws.{promised-step}
+use Rattle.demands.proofs.PromisedLaws.{promised-step, outcomes-carried}
 use Rattle.demands.proofs.StepLaws.{Holds, Goes, Plays, plays-begin, plays-withdraw, plays-min}
 use Rattle.demands.proofs.FinishLaws.{plays-finish}
 
@@ -94,3 +94,7 @@ follow s {u} (called {c} {o} {cs} {os} promised rest) p q h =
 
 pub demand2 : Demand2
 demand2 s ok cs os honest = follow s honest Nothing emptyQueue (fresh-holds s ok)
+
+-- the steps of World.antt are such a run
+pub demand2-steps : (s : Sizes) → inRange s ≡ true → (cs : List Call) → Run s (freshWorld s) Nothing emptyQueue cs (outcomes (freshWorld s) cs)
+demand2-steps s ok cs = demand2 s ok cs (outcomes (freshWorld s) cs) (outcomes-carried (freshWorld s) cs)

@@ -75,7 +75,7 @@ pub data Run (s : Sizes) : World → Waiting → Queue → List Call → List Ou
 
 -- The premise that the rack is honest, for "An older true copy of the tree can't be told apart": what comes of each call is what the
 -- contracts promise on the world that the call before it left (`Carried`, Promised.antt). So each fetch reads the tree that the last
--- store left, and "this store is done before the next begin".
+-- store left, and "this store is done before the next begin". The steps of World.antt keep it (`outcomes-carried`).
 abbrev pub HonestRack : Sizes → List Call → List Outcome → Type 0
 HonestRack s cs os = Carried (freshWorld s) cs os
 
