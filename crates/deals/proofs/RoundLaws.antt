@@ -1,5 +1,5 @@
 -- One request on a world that holds, begun and finished: what the rack sees of it, and what it leaves. Assumes nothing.
-use Prim.Native.Nat.{ℕ, zero, suc, _+_, _<_, _≤_}
+use Prim.Native.Nat.{ℕ, _<_, _≤_}
 use mathlib.Core.Bool.{true, false, true≢false}
 use mathlib.Core.List.{List, [], List·Memᴰ, Memᴰ·of-map}
 use mathlib.Core.Logic.{inl, inr}
@@ -15,16 +15,13 @@ use Rattle.record.proofs.StandingLaws.{proper-true, known-below}
 use Rattle.record.proofs.ManyLaws.{every-each}
 use Rattle.path.specs.declared.sizes.Sizes.{Sizes}
 use Rattle.path.specs.Sizes.{leavesOf}
-use Rattle.lists.specs.BucketList.{noBuckets, fetchedFor}
+use Rattle.lists.specs.BucketList.{noBuckets}
 use Rattle.refusal.specs.Refusal.{firstGiven}
 use Rattle.refusal.proofs.RefusalLaws.{none-given}
 use Rattle.judge.specs.BadParts.{stampOf}
-use Rattle.settle.specs.Left.{Left}
 use Rattle.rack.proofs.ListedLaws.{listed-laid}
-use Rattle.card.specs.declared.Card.{Card}
-use Rattle.card.specs.declared.Done.{Done}
 use Rattle.request.specs.declared.Waiting.{Waiting}
-use Rattle.request.specs.declared.Waiting.the-variants.{Nothing, Insert, Extract, Delete}
+use Rattle.request.specs.declared.Waiting.the-variants.{Nothing}
 use Rattle.answers.specs.declared.Answer.{Answer}
 use Rattle.answers.specs.declared.Answer.the-variants.{Started, Listed, Least, Withdrawn, Inserted, Extracted, Deleted, Refused}
 use Rattle.answers.specs.Answers.{numberOf}
@@ -32,14 +29,13 @@ use Rattle.card.specs.Answers.{orRefused}
 use Rattle.request.specs.Tables.{waits}
 use Rattle.card.specs.Tables.{requestTable}
 use Rattle.card.specs.BadCard.{badCard}
-use Rattle.listing.specs.Listing.{countsFor}
+use Rattle.listing.specs.Listing.{placesFor}
 use Rattle.card.specs.Calls.{listOf, beginTable, begun as begunDone, minTable, foundMin, withWaiting}
-use Rattle.card.specs.Finish.{leftBy, finishedBy, finished}
 use Rattle.card.proofs.AnswerLaws.{number-given}
 use Rattle.card.proofs.BeginLaws.{accepted, request-refused, room-enough}
 use Rattle.served.proofs.CallLaws.{ready-card}
 use Rattle.demands.specs.Queue.{Event, Queue, leastEvent, next, reply}
-use Rattle.demands.specs.World.{World, Asked, insert, extract, delete, Call, begin, finish, withdraw, findMin, Outcome, held, shown, step}
+use Rattle.demands.specs.World.{World, Asked, insert, extract, delete, Call, begin, finish, findMin, Outcome, held, step}
 use Rattle.demands.specs.Says.{eventOf, asks, says}
 use Rattle.demands.specs.Refusals.{wordsToFetch}
 use Rattle.demands.proofs.AnswerLaws.{least-told}
@@ -62,26 +58,6 @@ well-numbered (Refused n) e = absurd (true≢false (sym e))
 
 pub passes-well : (u : World) (c : Call) → well (step u c .answer) ≡ true → numberGiven (step u c) ≡ 0
 passes-well u c e = well-numbered (step u c .answer) e
-
--- ---- no call changes the sizes
-answered-sizes : (k : Card) (n : ℕ) (d : Done) → d .card .sizes ≡ k .sizes → orRefused k n d .card .sizes ≡ k .sizes
-unfolding orRefused
-answered-sizes k zero d e = e
-answered-sizes k (suc n) d e = refl
-
-finished-sizes : (k : Card) (w : Waiting) (l : Left) → finishedBy k w l .card .sizes ≡ k .sizes
-unfolding finishedBy
-finished-sizes k Nothing l = refl
-finished-sizes k (Insert key value label first second) l = refl
-finished-sizes k Extract l = refl
-finished-sizes k (Delete label stamp) l = refl
-
-pub step-sizes : (u : World) (c : Call) → step u c .world .card .sizes ≡ u .card .sizes
-unfolding step
-step-sizes u (begin asked places) = answered-sizes (u .card) _ _ refl
-step-sizes u (finish words) = answered-sizes (u .card) _ (finished (u .card) (shown u words)) (finished-sizes (u .card) (u .card .waiting) (leftBy (u .card) (u .card .waiting) (shown u words)))
-step-sizes u withdraw = answered-sizes (u .card) _ _ refl
-step-sizes u findMin = answered-sizes (u .card) _ _ refl
 
 -- ---- a begin
 module _ (u : World) {w : Waiting} (asked : Asked w) (places : List ℕ) where
@@ -120,34 +96,33 @@ module _ (v : World) (words : List ℕ) (e : numberGiven (step v (finish words))
   finish-seen = rw e
 
 -- ---- what holds between two requests
-pub record Idle (u : World) (q : Queue) : Type 0 where
-  pub sizes : Sizes
-  pub holds : Holds sizes u Nothing q
+abbrev pub Idle : Sizes → World → Queue → Type 0
+Idle s u q = Holds s u Nothing q
 
-module _ (u : World) (q : Queue) (i : Idle u q) where
+module _ (s : Sizes) (u : World) (q : Queue) (i : Idle s u q) where
   pub idle-waits : waits (u .card .waiting) ≡ false
   unfolding waits
-  idle-waits = rw (i .holds .stands .waiting)
+  idle-waits = rw (i .stands .waiting)
 
   pub idle-fine : badCard (u .card) ≡ false
-  idle-fine = ready-card (u .card) (u .tree) (i .holds .stands .live) (i .holds .stands .ready)
+  idle-fine = ready-card (u .card) (u .tree) (i .stands .live) (i .stands .ready)
 
   -- "the count c of live events"
   pub idle-count : u .card .c ≡ length (q .events)
   idle-count =
-      i .holds .stands .ready .heap .count ∙ sym (length-map (i .holds .stands .live) eventOf)
-      ∙ ap (λ (es : List Event). length es) (i .holds .stands .events)
+      i .stands .ready .heap .count ∙ sym (length-map (i .stands .live) eventOf)
+      ∙ ap (λ (es : List Event). length es) (i .stands .events)
 
   -- the root's least record is the queue's least
   pub idle-least : 1 ≤ u .card .c → leastEvent (q .events) ≡ some (eventOf (u .card .least))
   idle-least some-live =
-      ap leastEvent (sym (i .holds .stands .events))
-      ∙ least-told (u .card) (u .tree) (i .holds .stands .live) (i .holds .stands .ready) some-live
+      ap leastEvent (sym (i .stands .events))
+      ∙ least-told (u .card) (u .tree) (i .stands .live) (i .stands .ready) some-live
 
   -- live events have stamps below the count of finished requests
   pub idle-known : (e : Event) → List·Memᴰ e (q .events) → e .ref .stamp < u .card .t
   idle-known e m =
-      let stands = i .holds .stands in
+      let stands = i .stands in
       let (y, inside, is) = Memᴰ·of-map eventOf (stands .live) (subst (List·Memᴰ e) (sym (stands .events)) m) in
       let n = leavesOf (u .card .sizes .h) in
       let proper = proper-true n (stampOf (u .card .t)) y (every-each (isProper n (stampOf (u .card .t))) (stands .ready .heap .good .proper) inside) in
@@ -155,13 +130,14 @@ module _ (u : World) (q : Queue) (i : Idle u q) where
 
   -- a begin with room for its list is refused for its request alone
   pub idle-begin : {w : Waiting} (asked : Asked w) (places : List ℕ)
-      → countsFor (u .card .sizes .h) w .whole + countsFor (u .card .sizes .h) w .least ≤ length places
+      → placesFor (s .h) w ≤ length places
       → numberGiven (step u (begin asked places)) ≡ firstGiven (requestTable (u .card) w)
   idle-begin {w} asked places room =
       let m = firstGiven (requestTable (u .card) w) in
+      let own = subst (λ (z : Sizes). placesFor (z .h) w ≤ length places) (sym (i .stands .sizes)) room in
       begin-number u asked places ∙ elim (dichotomy (eqb m 0)) [
         | inl f ↦ request-refused (u .card) w (length places) idle-fine idle-waits (eqb-false m 0 f)
-        | inr t ↦ room-enough (u .card) w (length places) idle-fine idle-waits (eqb-true m 0 t) room ∙ sym (eqb-true m 0 t)
+        | inr t ↦ room-enough (u .card) w (length places) idle-fine idle-waits (eqb-true m 0 t) own ∙ sym (eqb-true m 0 t)
       ]
 
 -- ---- FindMin
@@ -190,13 +166,13 @@ module _ (u : World) where
       let d = none-given 8 (eqb (u .card .c) 0) [] (omega arith) (b .1) in
       eqb-false (u .card .c) 0 (d .0)
 
-  module _ (q : Queue) (i : Idle u q) where
+  module _ (s : Sizes) (q : Queue) (i : Idle s u q) where
     pub look-passes : (u .card .c ≡ 0 → ⊥) → numberGiven (step u findMin) ≡ 0
     unfolding minTable firstGiven
-    look-passes h = look-number ∙ rw (idle-fine u q i, idle-waits u q i, ne-eqb (u .card .c) 0 h)
+    look-passes h = look-number ∙ rw (idle-fine s u q i, idle-waits s u q i, ne-eqb (u .card .c) 0 h)
 
-    pub look-idle : numberGiven (step u findMin) ≡ 0 → Idle (step u findMin .world) q
-    look-idle e = record { sizes = i .sizes; holds = passed (plays (i .sizes) u Nothing q (i .holds) findMin) e .holds }
+    pub look-idle : numberGiven (step u findMin) ≡ 0 → Idle s (step u findMin .world) q
+    look-idle e = passed (plays s u Nothing q i findMin) e .holds
 
 -- ---- a request, begun and finished
 abbrev pub begunBy : World → {w : Waiting} → Asked w → List ℕ → World
@@ -205,7 +181,7 @@ begunBy u asked places = step u (begin asked places) .world
 abbrev pub doneBy : World → {w : Waiting} → Asked w → (places words : List ℕ) → Outcome
 doneBy u asked places words = step (begunBy u asked places) (finish words)
 
-module _ (u : World) (q : Queue) {w : Waiting} (asked : Asked w) (places words : List ℕ) where
+module _ (s : Sizes) (u : World) (q : Queue) {w : Waiting} (asked : Asked w) (places words : List ℕ) where
   abbrev begun : World
   begun = begunBy u asked places
 
@@ -213,7 +189,7 @@ module _ (u : World) (q : Queue) {w : Waiting} (asked : Asked w) (places words :
   done = doneBy u asked places words
 
   pub record Round : Type 0 where
-    pub before : Idle u q
+    pub before : Idle s u q
     -- neither is refused
     pub request : firstGiven (requestTable (u .card) w) ≡ 0
     pub begins : well (step u (begin asked places) .answer) ≡ true
@@ -223,16 +199,15 @@ module _ (u : World) (q : Queue) {w : Waiting} (asked : Asked w) (places words :
     pub second : seen begun (finish words) ≡ storedBack (listOf (u .card) w)
     -- what is answered and left
     pub said : says (done .answer) ≡ reply q (asks w)
-    pub after : Idle (done .world) (next q (asks w))
-    pub sizes : done .world .card .sizes ≡ u .card .sizes
+    pub after : Idle s (done .world) (next q (asks w))
 
-  module _ (i : Idle u q) (b : numberGiven (step u (begin asked places)) ≡ 0) where
+  module _ (i : Idle s u q) (b : numberGiven (step u (begin asked places)) ≡ 0) where
     -- its request is then pending
-    abbrev begun-holds : Holds (i .sizes) begun w q
-    begun-holds = passed (plays (i .sizes) u Nothing q (i .holds) (begin asked places)) b .holds
+    abbrev begun-holds : Holds s begun w q
+    begun-holds = passed (plays s u Nothing q i (begin asked places)) b .holds
 
-    ending : Plays (i .sizes) begun w q (finish words) done
-    ending = plays (i .sizes) begun w q begun-holds (finish words)
+    ending : Plays s begun w q (finish words) done
+    ending = plays s begun w q begun-holds (finish words)
 
     pub round : numberGiven done ≡ 0 → Round
     round f =
@@ -245,8 +220,7 @@ module _ (u : World) (q : Queue) {w : Waiting} (asked : Asked w) (places words :
           first = begin-seen u asked places b;
           second = finish-seen begun words f ∙ ap storedBack (begin-held u asked places b);
           said = answered .answers .same;
-          after = record { sizes = i .sizes; holds = answered .holds };
-          sizes = step-sizes begun (finish words) ∙ step-sizes u (begin asked places);
+          after = answered .holds;
         }
 
     -- with words enough it is finished
@@ -256,8 +230,6 @@ module _ (u : World) (q : Queue) {w : Waiting} (asked : Asked w) (places words :
     asked-waits extract = refl
     asked-waits delete = refl
 
-    pub round-passes : fetchedFor (u .card .sizes .z) (countsFor (u .card .sizes .h) w) ≤ length words → Round
+    pub round-passes : wordsToFetch s w ≤ length words → Round
     unfolding firstGiven
-    round-passes lent =
-        let enough : wordsToFetch (i .sizes) w ≤ length words = subst (λ (z : Sizes). wordsToFetch z w ≤ length words) (i .holds .stands .sizes) lent in
-        round (allowed ending (rw (asked-waits asked, le-ltb _ _ enough)) .answers .passes)
+    round-passes lent = round (allowed ending (rw (asked-waits asked, le-ltb _ _ lent)) .answers .passes)
