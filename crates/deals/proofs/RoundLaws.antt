@@ -30,7 +30,7 @@ use Rattle.request.specs.Tables.{waits}
 use Rattle.card.specs.Tables.{requestTable}
 use Rattle.card.specs.BadCard.{badCard}
 use Rattle.listing.specs.Listing.{placesFor}
-use Rattle.card.specs.Calls.{listOf, beginTable, begun as begunDone, minTable, foundMin, withWaiting}
+use Rattle.card.specs.Calls.{listOf, beginTable, begun as begunDone, minTable, foundMin}
 use Rattle.card.proofs.AnswerLaws.{number-given}
 use Rattle.card.proofs.BeginLaws.{accepted, request-refused, room-enough}
 use Rattle.served.proofs.CallLaws.{ready-card}
@@ -72,14 +72,10 @@ module _ (u : World) {w : Waiting} (asked : Asked w) (places : List ℕ) where
     passes : n ≡ 0
     passes = sym begin-number ∙ e
 
-    -- the list that is then held, and the card
+    -- the list that is then held
     begin-held : held (step u (begin asked places) .world) ≡ listOf (u .card) w
     unfolding step
     begin-held = rw passes (listed-laid (listOf (u .card) w) places)
-
-    begin-card : step u (begin asked places) .world .card ≡ withWaiting (u .card) w
-    unfolding step orRefused
-    begin-card = rw passes
 
     begin-seen : seen u (begin asked places) ≡ askedFor (listOf (u .card) w)
     unfolding seen
