@@ -19,7 +19,8 @@ use Rattle.demands.specs.World.{Call, begin, finish, withdraw, findMin}
 abbrev pub wordsToFetch : Sizes → Waiting → ℕ
 wordsToFetch s p = fetchedFor (s .z) (countsFor (s .h) p)
 
--- Of the card only the root's slots count, for "Insert, every root slot real".
+-- Begin: "2 .., 4, 5, 6, 7, 8, 9, 10, 11"; "finish checks 13, 3, 11, 12 only, withdraw 13, 3"; FindMin "checks 13, 2 and 8 only". Of the
+-- card only the root's slots count, for "Insert, every root slot real".
 module _ (s : Sizes) (root : List Record) (p : Waiting) (q : Queue) where
   abbrev pub refusals : Call → List Refusal
   refusals (begin {w} asked places) =
