@@ -1,5 +1,5 @@
--- Which requests a card takes that has the sizes and counts of another, and which answers say that an event was found. Assumes
--- nothing.
+-- Which requests a card takes that has the sizes and counts of another, and which answers say that an event was found.
+-- Assumes nothing.
 use Prim.Native.Nat.{ℕ, _/_, _<_}
 use mathlib.Core.Bool.{Bool, true, false, cond}
 use mathlib.Core.Logic.{_⊎_, inl, inr}

@@ -1,5 +1,5 @@
--- What the contracts of `card` and `rack` promise of one call, whatever code carries it out, and what a driver then holds.
--- By proofs/PromisedLaws.antt it is the outcome that `step` gives, so demand 2 speaks of the code. Assumes nothing.
+-- What the contracts of `card` and `rack` promise of one call, whatever code carries it out, and what a driver then holds; demand 2
+-- is stated of it. By proofs/PromisedLaws.antt it is the outcome that `step` gives, and no other. Assumes nothing.
 use Prim.Native.Nat.{ℕ}
 use mathlib.Core.List.{List, [], _∷_}
 use mathlib.Core.Path.{_≡_}

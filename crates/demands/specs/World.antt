@@ -1,9 +1,7 @@
 -- The world of a run: card and rack, and what the driver holds between two calls; and what a call makes of it, by the
 -- definitions that the contracts of `card` and `rack` cite. Document 01, "A request, step by step". Assumes nothing.
 use Prim.Native.Nat.{ℕ, _≤_}
-use mathlib.Core.Bool.{cond}
 use mathlib.Core.List.{List, [], _∷_}
-use lib.Dec.{eqb}
 use lib.ListN.{length}
 use Rattle.record.specs.declared.Leaf.{Leaf}
 use Rattle.record.specs.declared.Stamp.{Stamp}
