@@ -1,12 +1,12 @@
 -- P1 to P9 on whole bytes: the paper's input, with its line ends, gives the paper's whole output. Assumes nothing.
 use Prim.Native.Nat.{ℕ}
-use mathlib.Core.List.{List, [], _∷_, _++_, map}
+use mathlib.Core.List.{List, [], _∷_, map}
 use mathlib.Core.Path.{_≡_, refl, ap, _∙_}
 use Rattle.fields.specs.Pieces.{pieces}
 use Rattle.lines.specs.Says.{linesOf}
 use Rattle.steps.specs.Step.{Left}
 use Rattle.replies.specs.Reply.{bytesOf}
-use Rattle.output.specs.Output.{State, repliesTo, opened as fresh, wholeOutput}
+use Rattle.output.specs.Output.{repliesTo, opened as fresh, wholeOutput}
 use Rattle.paper.specs.Run.{Row, opened, nextOf, given, stated, inputOf, printsOf}
 use Rattle.paper.specs.Table.{table}
 use Rattle.paper.proofs.Paper.{paper}

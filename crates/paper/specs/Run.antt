@@ -54,6 +54,10 @@ none l = []
 abbrev pub slotsOfBucket : ℕ → Left → List ℕ
 slotsOfBucket n l = drop recordWords (bucketPart 1 (l .tree) (bucket n))
 
+-- those of one bucket, then those of another
+abbrev pub slotsOfBoth : ℕ → ℕ → Left → List ℕ
+slotsOfBoth m n l = slotsOfBucket m l ++ slotsOfBucket n l
+
 -- how many buckets a request asks for whole and how many for least records, and their numbers
 abbrev pub asks : Waiting → Left → List ℕ
 asks w l =
