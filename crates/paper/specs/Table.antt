@@ -4,7 +4,7 @@ use mathlib.Core.List.{List, [], _∷_}
 use Rattle.record.specs.declared.Leaf.{Leaf}
 use Rattle.record.specs.Standing.{dummyKey}
 use Rattle.request.specs.declared.Waiting.the-variants.{Insert, Extract}
-use Rattle.paper.specs.Run.{Row, none, slotsOfBucket, slotsOfBoth, asks}
+use Rattle.paper.specs.Run.{Row, none, slotsOfBucket, slotsOfBoth, asksFor}
 
 abbrev pub leaf : ℕ → Leaf
 leaf n = record { 0 = n }
@@ -15,7 +15,7 @@ abbrev pub row1 : Row
 row1 = record {
   line = 115 ∷ 105 ∷ 122 ∷ 101 ∷ 32 ∷ 50 ∷ 32 ∷ 49 ∷ 32 ∷ 49 ∷ 32 ∷ 49 ∷ 54 ∷ [];
   prints = 48 ∷ 10 ∷ [];
-  look = asks (Insert 7 70 (leaf 0) (leaf 1) (leaf 2));
+  look = asksFor (Insert 7 70 (leaf 0) (leaf 1) (leaf 2));
   shows = 4 ∷ 2 ∷ 2 ∷ 5 ∷ 3 ∷ 6 ∷ 4 ∷ 7 ∷ [];
 }
 
@@ -55,7 +55,7 @@ abbrev pub row5 : Row
 row5 = record {
   line = 109 ∷ 105 ∷ 110 ∷ [];
   prints = 48 ∷ 32 ∷ 53 ∷ 32 ∷ 53 ∷ 48 ∷ 32 ∷ 48 ∷ 32 ∷ 49 ∷ 32 ∷ 48 ∷ 10 ∷ [];
-  look = asks Extract;
+  look = asksFor Extract;
   shows = 2 ∷ 2 ∷ 2 ∷ 4 ∷ 3 ∷ 5 ∷ [];
 }
 

@@ -26,26 +26,26 @@ use Rattle.card.specs.Answers.{refused, orRefused}
 use Rattle.card.specs.Calls.{freshCard, minTable, foundMin}
 use Rattle.served.proofs.CallLaws.{start-ready, ready-card}
 use Rattle.served.proofs.FinishedLaws.{WordKey}
-use Rattle.demands.specs.Queue.{Queue, findMin, emptyQueue, leastEvent, reply, next, told as toldOf}
+use Rattle.demands.specs.Queue.{Queue, findMin, emptyQueue, leastEvent, reply, next, told}
 use Rattle.demands.specs.Says.{eventOf, asks}
 use Rattle.demands.proofs.AnswerLaws.{least-told}
 use Rattle.lines.specs.declared.Line.{Line}
 use Rattle.lines.specs.declared.Line.the-variants.{Unreadable, Size, Insert, Min, Extract, Delete}
 use Rattle.steps.specs.declared.Desk.{Desk}
 use Rattle.steps.specs.declared.Turn.{Turn}
-use Rattle.steps.specs.Step.{Left, nothing, unread as question, told, kept, fresh, sizedTo, tooLarge, wordsOf, head, played, askedFor, leastOf, minOf, stepOf}
+use Rattle.steps.specs.Step.{LineLeft, nothing, unread as question, tells, kept, fresh, sizedTo, tooLarge, treeWordsUsed, head, played, askedFor, minDone, minOf, stepOf}
 use Rattle.steady.specs.Steady.{wants, refusals, Holds, Keeps, Unheard, unreadable, early, large, Turns, unread, misSized, refused as refuses, started, answered}
 use Rattle.steady.proofs.HeldLaws.{own-head, own-desk, round-refused, round-says, round-numbered, round-holds}
 
 -- a line played: what it comes to, and that the desk keeps what is then held
-pub record Played (desk : Desk) (tree : List ℕ) (q : Option Queue) (line : Line) (l : Left) : Type 0 where
+pub record Played (desk : Desk) (tree : List ℕ) (q : Option Queue) (line : Line) (l : LineLeft) : Type 0 where
   pub held : Option Queue
   pub turns : Turns desk tree q line l held
   pub keeps : Keeps (l .turn .desk) (l .tree) held
 
 -- ---- `size`
 module _ (desk : Desk) (tree : List ℕ) (q : Option Queue) (k : Keeps desk tree q) where
-  stays : {line : Line} {l : Left} → Unheard (length tree) q line → l ≡ nothing desk tree → Played desk tree q line l
+  stays : {line : Line} {l : LineLeft} → Unheard (length tree) q line → l ≡ nothing desk tree → Played desk tree q line l
   stays u e = record { held = q; turns = unread u e; keeps = rw e k }
 
   module _ (h z r t : ℕ) where
@@ -59,7 +59,7 @@ module _ (desk : Desk) (tree : List ℕ) (q : Option Queue) (k : Keeps desk tree
         record {
           sized = refl;
           live = [];
-          ready = rw (own-head (record { sized = true; card = freshCard s }) (freshTree h z) (drop (wordsOf h z) tree) e (r .heap .words)) r;
+          ready = rw (own-head (record { sized = true; card = freshCard s }) (freshTree h z) (drop (treeWordsUsed h z) tree) e (r .heap .words)) r;
           idle = refl;
           events = refl;
           taken = refl;
@@ -106,7 +106,7 @@ module _ (desk : Desk) (tree : List ℕ) (q : Queue) (h : Holds desk tree q) whe
             turns =
                 refuses q refl (λ z. n (own-number ∙ z))
                 (e ∙ ap (λ (m : ℕ). record { turn = kept desk (Refused m); tree = tree }) own-number);
-            keeps = subst (λ (l : Left). Keeps (l .turn .desk) (l .tree) (some q)) (sym e) h;
+            keeps = subst (λ (l : LineLeft). Keeps (l .turn .desk) (l .tree) (some q)) (sym e) h;
           }
       | inr e ↦
           let n = eqb-true _ _ e in
@@ -126,24 +126,24 @@ module _ (desk : Desk) (tree : List ℕ) (q : Queue) (h : Holds desk tree q) whe
   abbrev k : Card
   k = desk .card
 
-  min-told : minOf desk ≡ told (leastOf k)
+  min-told : minOf desk ≡ tells (minDone k)
   unfolding minOf
-  min-told = ap (λ (b : Bool). cond b (told (leastOf k)) (question desk)) (h .sized)
+  min-told = ap (λ (b : Bool). cond b (tells (minDone k)) (question desk)) (h .sized)
 
-  none-least : k .c ≡ 0 → leastOf k ≡ refused k 8
+  none-least : k .c ≡ 0 → minDone k ≡ refused k 8
   unfolding minTable firstGiven orRefused
   none-least e = rw (ready-card k (head desk tree) (h .live) (h .ready), h .idle, eq-eqb (k .c) 0 e)
 
-  some-least : (k .c ≡ 0 → ⊥) → leastOf k ≡ foundMin k
+  some-least : (k .c ≡ 0 → ⊥) → minDone k ≡ foundMin k
   unfolding minTable firstGiven orRefused
   some-least n = rw (ready-card k (head desk tree) (h .live) (h .ready), h .idle, ne-eqb (k .c) 0 n)
 
   min-empty : k .c ≡ 0 → minOf desk ≡ kept desk (Refused 8)
-  min-empty e = min-told ∙ ap told (none-least e) ∙ ap (λ (d : Desk). kept d (Refused 8)) (own-desk desk tree q h)
+  min-empty e = min-told ∙ ap tells (none-least e) ∙ ap (λ (d : Desk). kept d (Refused 8)) (own-desk desk tree q h)
 
   min-found : (k .c ≡ 0 → ⊥) → minOf desk ≡ kept desk (Least (k .least) 0)
   unfolding wordsMoved sum
-  min-found n = min-told ∙ ap told (some-least n) ∙ ap (λ (d : Desk). kept d (Least (k .least) 0)) (own-desk desk tree q h)
+  min-found n = min-told ∙ ap tells (some-least n) ∙ ap (λ (d : Desk). kept d (Least (k .least) 0)) (own-desk desk tree q h)
 
   given-eight : length (q .events) ≡ 0 → firstGiven (refusals k q Min) ≡ 8
   unfolding firstGiven
@@ -162,7 +162,7 @@ module _ (desk : Desk) (tree : List ℕ) (q : Queue) (h : Holds desk tree q) whe
           held = some q;
           turns =
               answered q findMin (Least (k .least) 0) refl refl (given-none (λ z. n (events-counted ∙ z))) (ap (λ (t : Turn). t .reply) e) refl
-              (ap toldOf (sym (least-told k (head desk tree) (h .live) (h .ready) (omega (arith, n))) ∙ ap leastEvent (h .events)));
+              (ap told (sym (least-told k (head desk tree) (h .live) (h .ready) (omega (arith, n))) ∙ ap leastEvent (h .events)));
           keeps = rw e h;
         }
     | inr t ↦

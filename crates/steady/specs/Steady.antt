@@ -22,7 +22,7 @@ use Rattle.lines.specs.declared.Line.{Line}
 use Rattle.lines.specs.declared.Line.the-variants.{Unreadable, Size, Insert, Min, Extract, Delete}
 use Rattle.steps.specs.declared.Desk.{Desk}
 use Rattle.steps.specs.declared.Reply.the-variants.{Said}
-use Rattle.steps.specs.Step.{Left, nothing, kept, head, tooLarge, stepOf}
+use Rattle.steps.specs.Step.{LineLeft, nothing, kept, head, tooLarge, stepOf}
 
 -- what a line asks of the queue: a `size` asks nothing of the one that was
 abbrev pub wants : Line → Option Request
@@ -77,7 +77,7 @@ pub data Unheard (lent : ℕ) : Option Queue → Line → Type 0 where
       {q : Option Queue} {h z r t : ℕ} → inRange (sizesOf h z r t) ≡ true → tooLarge lent (sizesOf h z r t) ≡ true
       → Unheard lent q (Size h z r t)
 
-module _ (desk : Desk) (tree : List ℕ) (q : Option Queue) (line : Line) (l : Left) where
+module _ (desk : Desk) (tree : List ℕ) (q : Option Queue) (line : Line) (l : LineLeft) where
   -- what is left of it, and the queue that is held then
   pub data Turns : Option Queue → Type 0 where
     -- `?`, and nothing changes
@@ -100,8 +100,8 @@ module _ (desk : Desk) (tree : List ℕ) (q : Option Queue) (line : Line) (l : L
         → l .turn .reply ≡ Said a → numberOf a ≡ 0 → says a ≡ reply p w → Turns (some (next p w))
 
 -- ---- every list of lines
-pub data Sits : Desk → List ℕ → Option Queue → List Line → Type 0 where
-  ended : {desk : Desk} {tree : List ℕ} {q : Option Queue} → Keeps desk tree q → Sits desk tree q []
+pub data SitsBeside : Desk → List ℕ → Option Queue → List Line → Type 0 where
+  ended : {desk : Desk} {tree : List ℕ} {q : Option Queue} → Keeps desk tree q → SitsBeside desk tree q []
   turned : {desk : Desk} {tree : List ℕ} {q p : Option Queue} {line : Line} {lines : List Line} → Keeps desk tree q
       → Turns desk tree q line (stepOf desk line tree) p
-      → Sits (stepOf desk line tree .turn .desk) (stepOf desk line tree .tree) p lines → Sits desk tree q (line ∷ lines)
+      → SitsBeside (stepOf desk line tree .turn .desk) (stepOf desk line tree .tree) p lines → SitsBeside desk tree q (line ∷ lines)
