@@ -33,8 +33,8 @@ use Rattle.lines.specs.declared.Line.{Line}
 use Rattle.lines.specs.declared.Line.the-variants.{Unreadable, Size, Insert, Min, Extract, Delete}
 use Rattle.steps.specs.declared.Desk.{Desk}
 use Rattle.steps.specs.declared.Turn.{Turn}
-use Rattle.steps.specs.Step.{LineLeft, nothing, unread as question, tells, kept, fresh, sizedTo, tooLarge, treeWordsUsed, head, played, askedFor, minDone, minOf, stepOf}
-use Rattle.steady.specs.Steady.{wants, refusals, Holds, Keeps, Unheard, unreadable, early, large, Turns, unread, misSized, refused as refuses, started, answered}
+use Rattle.steps.specs.Step.{LineLeft, nothing, unread, tells, kept, fresh, sizedTo, tooLarge, treeWordsUsed, head, played, askedFor, minDone, minOf, stepOf}
+use Rattle.steady.specs.Steady.{wants, refusals, Holds, Keeps, Unheard, unreadable, early, large, Turns, ignored, misSized, sizedAnew, refusedWith, answered}
 use Rattle.steady.proofs.HeldLaws.{own-head, own-desk, round-refused, round-says, round-numbered, round-holds}
 
 -- a line played: what it comes to, and that the desk keeps what is then held
@@ -46,7 +46,7 @@ pub record Played (desk : Desk) (tree : List ℕ) (q : Option Queue) (line : Lin
 -- ---- `size`
 module _ (desk : Desk) (tree : List ℕ) (q : Option Queue) (k : Keeps desk tree q) where
   stays : {line : Line} {l : LineLeft} → Unheard (length tree) q line → l ≡ nothing desk tree → Played desk tree q line l
-  stays u e = record { held = q; turns = unread u e; keeps = rw e k }
+  stays u e = record { held = q; turns = ignored u e; keeps = rw e k }
 
   module _ (h z r t : ℕ) where
     abbrev s : Sizes
@@ -70,7 +70,7 @@ module _ (desk : Desk) (tree : List ℕ) (q : Option Queue) (k : Keeps desk tree
     size-line = elim (dichotomy (inRange s)) [
       | inl f ↦ rw f (record { held = q; turns = misSized h z r t refl f refl; keeps = k })
       | inr e ↦ elim (dichotomy (tooLarge (length tree) s)) [
-        | inl f ↦ rw (e, f) (record { held = some emptyQueue; turns = started h z r t refl e f refl refl; keeps = fresh-keeps e })
+        | inl f ↦ rw (e, f) (record { held = some emptyQueue; turns = sizedAnew h z r t refl e f refl refl; keeps = fresh-keeps e })
         | inr l ↦ rw (e, l) (stays (large e l) refl)
       ]
     ]
@@ -104,7 +104,7 @@ module _ (desk : Desk) (tree : List ℕ) (q : Queue) (h : Holds desk tree q) whe
           record {
             held = some q;
             turns =
-                refuses q refl (λ z. n (own-number ∙ z))
+                refusedWith q refl (λ z. n (own-number ∙ z))
                 (e ∙ ap (λ (m : ℕ). record { turn = kept desk (Refused m); tree = tree }) own-number);
             keeps = subst (λ (l : LineLeft). Keeps (l .turn .desk) (l .tree) (some q)) (sym e) h;
           }
@@ -128,7 +128,7 @@ module _ (desk : Desk) (tree : List ℕ) (q : Queue) (h : Holds desk tree q) whe
 
   min-told : minOf desk ≡ tells (minDone k)
   unfolding minOf
-  min-told = ap (λ (b : Bool). cond b (tells (minDone k)) (question desk)) (h .sized)
+  min-told = ap (λ (b : Bool). cond b (tells (minDone k)) (unread desk)) (h .sized)
 
   none-least : k .c ≡ 0 → minDone k ≡ refused k 8
   unfolding minTable firstGiven orRefused
@@ -172,7 +172,7 @@ module _ (desk : Desk) (tree : List ℕ) (q : Queue) (h : Holds desk tree q) whe
         record {
           held = some q;
           turns =
-              refuses q refl (λ n. omega (arith, eight, n))
+              refusedWith q refl (λ n. omega (arith, eight, n))
               (rw eight (ap (λ (u : Turn). record { turn = u; tree = tree }) e));
           keeps = rw e h;
         }

@@ -81,17 +81,17 @@ module _ (desk : Desk) (tree : List ℕ) (q : Option Queue) (line : Line) (l : L
   -- what is left of it, and the queue that is held then
   pub data Turns : Option Queue → Type 0 where
     -- `?`, and nothing changes
-    unread : Unheard (length tree) q line → l ≡ nothing desk tree → Turns q
+    ignored : Unheard (length tree) q line → l ≡ nothing desk tree → Turns q
     -- a `size` out of its ranges: 1, and nothing changes
     misSized :
         (h z r t : ℕ) → line ≡ Size h z r t → inRange (sizesOf h z r t) ≡ false
         → l ≡ record { turn = kept desk (Refused 1); tree = tree } → Turns q
     -- "`size h Z R T` starts afresh", with these sizes
-    started :
+    sizedAnew :
         (h z r t : ℕ) → line ≡ Size h z r t → inRange (sizesOf h z r t) ≡ true → tooLarge (length tree) (sizesOf h z r t) ≡ false
         → l .turn .desk .card .sizes ≡ sizesOf h z r t → l .turn .reply ≡ Said Started → Turns (some emptyQueue)
     -- the first of the line's refusals that is given, and nothing changes
-    refused :
+    refusedWith :
         (p : Queue) → q ≡ some p → (firstGiven (refusals (desk .card) p line) ≡ 0 → ⊥)
         → l ≡ record { turn = kept desk (Refused (firstGiven (refusals (desk .card) p line))); tree = tree } → Turns q
     -- where none is given: as the queue answers
