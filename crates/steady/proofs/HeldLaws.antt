@@ -112,6 +112,9 @@ module _ (desk : Desk) (tree : List ℕ) (q : Queue) (h : Holds desk tree q) whe
       card-left : out .card ≡ cardLeft waiting (leftBy waiting w (shown (listOf waiting w)))
       card-left = ap (λ (d : Done). d .card) finished-done ∙ finished-card waiting w _ some
 
+      pub round-sizes : out .card .sizes ≡ k .sizes
+      round-sizes = ap (λ (c : Card). c .sizes) card-left
+
       pub round-says : says (out .answer) ≡ reply q (asks w)
       round-says =
           ap (λ (d : Done). says (d .answer)) finished-done ∙ finish-says waiting (head desk tree) (h .live) ready wordPlaces some

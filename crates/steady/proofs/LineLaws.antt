@@ -35,7 +35,7 @@ use Rattle.steps.specs.declared.Desk.{Desk}
 use Rattle.steps.specs.declared.Turn.{Turn}
 use Rattle.steps.specs.Step.{LineLeft, nothing, unread, tells, kept, fresh, sizedTo, tooLarge, treeWordsUsed, head, played, askedFor, minDone, minOf, stepOf}
 use Rattle.steady.specs.Steady.{wants, refusals, Holds, Keeps, Unheard, unreadable, early, large, Turns, ignored, misSized, sizedAnew, refusedWith, answered}
-use Rattle.steady.proofs.HeldLaws.{own-head, own-desk, round-refused, round-says, round-numbered, round-holds}
+use Rattle.steady.proofs.HeldLaws.{own-head, own-desk, round-refused, round-sizes, round-says, round-numbered, round-holds}
 
 -- a line played: what it comes to, and that the desk keeps what is then held
 pub record Played (desk : Desk) (tree : List ℕ) (q : Option Queue) (line : Line) (l : LineLeft) : Type 0 where
@@ -113,7 +113,7 @@ module _ (desk : Desk) (tree : List ℕ) (q : Queue) (h : Holds desk tree q) whe
           record {
             held = some (next q (asks w));
             turns =
-                answered q (asks w) _ refl same (sym own-number ∙ n) refl (round-numbered desk tree q h w word busy n)
+                answered q (asks w) _ refl same (sym own-number ∙ n) (round-sizes desk tree q h w word busy n) refl (round-numbered desk tree q h w word busy n)
                 (round-says desk tree q h w word busy n);
             keeps = round-holds desk tree q h w word busy n;
           }
@@ -161,7 +161,7 @@ module _ (desk : Desk) (tree : List ℕ) (q : Queue) (h : Holds desk tree q) whe
         record {
           held = some q;
           turns =
-              answered q findMin (Least (k .least) 0) refl refl (given-none (λ z. n (events-counted ∙ z))) (ap (λ (t : Turn). t .reply) e) refl
+              answered q findMin (Least (k .least) 0) refl refl (given-none (λ z. n (events-counted ∙ z))) (ap (λ (t : Turn). t .desk .card .sizes) e) (ap (λ (t : Turn). t .reply) e) refl
               (ap told (sym (least-told k (head desk tree) (h .live) (h .ready) (omega (arith, n))) ∙ ap leastEvent (h .events)));
           keeps = rw e h;
         }

@@ -94,10 +94,11 @@ module _ (desk : Desk) (tree : List ℕ) (q : Option Queue) (line : Line) (l : L
     refusedWith :
         (p : Queue) → q ≡ some p → (firstGiven (refusals (desk .card) p line) ≡ 0 → ⊥)
         → l ≡ record { turn = kept desk (Refused (firstGiven (refusals (desk .card) p line))); tree = tree } → Turns q
-    -- where none is given: as the queue answers
+    -- where none is given: as the queue answers, and the sizes stay
     answered :
         (p : Queue) (w : Request) (a : Answer) → q ≡ some p → wants line ≡ some w → firstGiven (refusals (desk .card) p line) ≡ 0
-        → l .turn .reply ≡ Said a → numberOf a ≡ 0 → says a ≡ reply p w → Turns (some (next p w))
+        → l .turn .desk .card .sizes ≡ desk .card .sizes → l .turn .reply ≡ Said a → numberOf a ≡ 0 → says a ≡ reply p w
+        → Turns (some (next p w))
 
 -- ---- every list of lines
 pub data SitsBeside : Desk → List ℕ → Option Queue → List Line → Type 0 where
