@@ -1,14 +1,12 @@
 -- A round on a ready card and its tree gives the number that the request's own rules give, and no other: neither 11 nor 12, nor 2, 3 or 13.
 -- Assumes nothing.
 use Prim.Native.Nat.{ℕ, zero, suc, _+_, _*_, _≤_}
-use mathlib.Core.Bool.{Bool, true, false, cond, _&&_, and-eq-true-iff}
+use mathlib.Core.Bool.{Bool, true, false, cond}
 use mathlib.Core.List.{List, [], _∷_}
 use mathlib.Core.Path.{_≡_, refl, sym, subst, _∙_}
 use native.Mathlib.Omega.{arith}
 use native.Mathlib.Nat.{mul-le-mul-right}
-use lib.Dec.{leb}
 use lib.ListN.{length}
-use borrow.Author.Tests.{leb-true, ne-eqb}
 use Rattle.record.specs.declared.Record.{Record}
 use Rattle.lists.specs.declared.Listed.{Listed as Counts}
 use Rattle.path.specs.Layout.{bucketWords}
@@ -59,12 +57,6 @@ pick : (b : Bool) (n rest : ℕ) → ownNumber n ≡ true → ownNumber rest ≡
 pick true n rest p q = p
 pick false n rest p q = q
 
-pub own-range : (n : ℕ) → ownNumber n ≡ true → (n ≡ 0 → ⊥) → (4 ≤ n) × (n ≤ 10)
-own-range n e h =
-    let some : (leb 4 n && leb n 10) ≡ true = rw (ne-eqb n 0 h) at e in
-    let both = and-eq-true-iff (leb 4 n) _ .0 some in
-    (leb-true 4 n (both .0), leb-true n 10 (both .1))
-
 -- a table of such numbers
 data Own : List Refusal → Type 0 where
   over : Own []
@@ -82,7 +74,7 @@ request-rows k (Insert key value label first second) = next 4 refl (next 5 refl 
 request-rows k Extract = next 4 refl (next 8 refl over)
 request-rows k (Delete label stamp) = next 4 refl (next 6 refl (next 7 refl over))
 
-pub request-own : (k : Card) (w : Waiting) → ownNumber (firstGiven (requestTable k w)) ≡ true
+request-own : (k : Card) (w : Waiting) → ownNumber (firstGiven (requestTable k w)) ≡ true
 request-own k w = first-own (request-rows k w)
 
 -- ---- a round

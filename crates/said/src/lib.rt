@@ -1,4 +1,5 @@
-// An answer of the card, printed: document 01, "Otherwise: 0 for size; 0, label, stamp, words for insert; ..". Stands on `card` and `frames`.
+// An answer of the card, printed: document 01, "Otherwise: 0 for size; 0, label, stamp, words for insert; ..". Stands on `record`,
+// `answers`, `decimal` and `frames`.
 ghost use mathlib.Core.Path.{_≡_};
 ghost use mathlib.Core.List.{[], _∷_};
 ghost use mathlib.Core.Bool.{cond};

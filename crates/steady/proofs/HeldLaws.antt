@@ -35,13 +35,13 @@ use Rattle.demands.specs.Queue.{Queue, reply, next}
 use Rattle.demands.specs.Says.{asks, says}
 use Rattle.demands.proofs.AnswerLaws.{queueOf, finish-says, finish-numbered, next-events, next-taken}
 use Rattle.steps.specs.declared.Desk.{Desk}
-use Rattle.steps.specs.Step.{wordsOf, usedOf, told, kept, head, rest, played}
+use Rattle.steps.specs.Step.{treeWordsUsed, usedOf, tells, kept, head, rest, played}
 use Rattle.steady.specs.Steady.{Holds}
 
 -- the words of a tree that stands at the head of what is lent
 pub own-head : (desk : Desk) (tree rest : List ℕ) → inRange (desk .card .sizes) ≡ true
     → length tree ≡ treeWords (desk .card .sizes .h) (desk .card .sizes .z) → head desk (tree ++ rest) ≡ tree
-unfolding wordsOf
+unfolding treeWordsUsed
 own-head desk tree rest e n =
     let range = tree-range (desk .card .sizes) e in
     let used : usedOf (desk .card .sizes .h) (desk .card .sizes .z) (length (tree ++ rest)) ≡ length tree =
@@ -89,7 +89,7 @@ module _ (desk : Desk) (tree : List ℕ) (q : Queue) (h : Holds desk tree q) whe
 
       pub round-refused : played desk tree w ≡ record { turn = kept desk (Refused number); tree = tree }
       round-refused =
-          let turn : told out ≡ kept desk (Refused number) = ap told refused-done ∙ ap (λ (d : Desk). kept d (Refused number)) own-desk in
+          let turn : tells out ≡ kept desk (Refused number) = ap tells refused-done ∙ ap (λ (d : Desk). kept d (Refused number)) own-desk in
           let whole : after ++ rest desk tree ≡ tree = rw (same-tree, take-append-drop) in
           λ i. record { turn = turn i; tree = whole i }
 
@@ -111,6 +111,9 @@ module _ (desk : Desk) (tree : List ℕ) (q : Queue) (h : Holds desk tree q) whe
 
       card-left : out .card ≡ cardLeft waiting (leftBy waiting w (shown (listOf waiting w)))
       card-left = ap (λ (d : Done). d .card) finished-done ∙ finished-card waiting w _ some
+
+      pub round-sizes : out .card .sizes ≡ k .sizes
+      round-sizes = ap (λ (c : Card). c .sizes) card-left
 
       pub round-says : says (out .answer) ≡ reply q (asks w)
       round-says =

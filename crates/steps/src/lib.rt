@@ -1,5 +1,5 @@
 // The desk between two lines, what a line leaves of it, and the three ways a line ends: document 01, "What the desk sees". For crates above.
-// Stands on `lines` and `rounds`.
+// Stands on `path`, `answers`, `card`, `copies`, `lines` and `rounds`.
 mod ends;
 mod room;
 
