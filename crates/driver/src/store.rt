@@ -7,7 +7,7 @@ ghost use Rattle.driver.specs.Driven.{Racked};
 
 #[no_mangle]
 pub extern "C" fn nwidarap_fill(answer: &mut [u64; 6], h: u64, z: u64, tree: &mut [u64]) -> u64
-    ensures { λ n. ⌜ Racked (fillRefusal h z (now (tree .entry))) (freshTree h z) (now (answer .entry)) (now (tree .entry)) n (now (answer .exit)) (now (tree .exit)) ⌝ }
+    ensures { λ n. ⌜ Racked (fillRefusal h z (now (tree .entry))) (freshTree h z) (now (tree .entry)) n (now (answer .exit)) (now (tree .exit)) ⌝ }
 {
     let said = rack::fill(tree, h, z);
     told::tell(said, answer)
@@ -24,7 +24,7 @@ pub extern "C" fn nwidarap_fetch(
     tree: &[u64],
     words: &mut [u64],
 ) -> u64
-    ensures { λ n. ⌜ Racked (copyRefusal h z (now (tree .entry)) (now (list .entry)) whole least (now (words .entry))) (fetched z (now (tree .entry)) (listed (now (list .entry)) whole least) (now (words .entry))) (now (answer .entry)) (now (words .entry)) n (now (answer .exit)) (now (words .exit)) ⌝ }
+    ensures { λ n. ⌜ Racked (copyRefusal h z (now (tree .entry)) (now (list .entry)) whole least (now (words .entry))) (fetched z (now (tree .entry)) (listed (now (list .entry)) whole least) (now (words .entry))) (now (words .entry)) n (now (answer .exit)) (now (words .exit)) ⌝ }
 {
     let said = rack::fetch(h, z, tree, list, whole, least, words);
     told::tell(said, answer)
@@ -41,7 +41,7 @@ pub extern "C" fn nwidarap_store(
     words: &[u64],
     tree: &mut [u64],
 ) -> u64
-    ensures { λ n. ⌜ Racked (copyRefusal h z (now (tree .entry)) (now (list .entry)) whole least (now (words .entry))) (stored z (listed (now (list .entry)) whole least .whole) (now (words .entry)) (now (tree .entry))) (now (answer .entry)) (now (tree .entry)) n (now (answer .exit)) (now (tree .exit)) ⌝ }
+    ensures { λ n. ⌜ Racked (copyRefusal h z (now (tree .entry)) (now (list .entry)) whole least (now (words .entry))) (stored z (listed (now (list .entry)) whole least .whole) (now (words .entry)) (now (tree .entry))) (now (tree .entry)) n (now (answer .exit)) (now (tree .exit)) ⌝ }
 {
     let said = rack::store(h, z, tree, list, whole, least, words);
     told::tell(said, answer)
