@@ -9,6 +9,9 @@ const WORDS_MOST: usize = 1024;
 
 const TREE_MOST: usize = 8192;
 
+// What stands in every word of the answer before a call, so that a word that the call leaves alone is seen in the reply.
+const OLD_ANSWER: u64 = u64::MAX;
+
 // A reply as far as the slices.
 fn reply(number: u64, answer: &[u64; 6], card: &[u64; 272]) -> bool {
     if !words::write(&[number]) {
@@ -36,7 +39,7 @@ fn answer_card(
     list: &mut [u64],
     buckets: &mut [u64],
 ) -> bool {
-    let mut answer = [0u64; 6];
+    let mut answer = [OLD_ANSWER; 6];
     let number = play::on_card(asked, card, &mut answer, list, buckets);
     reply(number, &answer, card)
 }
@@ -48,7 +51,7 @@ fn answer_rack(
     buckets: &mut [u64],
     tree: &mut [u64],
 ) -> bool {
-    let mut answer = [0u64; 6];
+    let mut answer = [OLD_ANSWER; 6];
     let number = play::on_rack(asked, &mut answer, list, buckets, tree);
     reply(number, &answer, card)
 }
