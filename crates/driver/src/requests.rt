@@ -7,14 +7,16 @@ ghost use Rattle.refusal.specs.Refusal.{firstGiven};
 ghost use Rattle.driver.specs.Driven.{onCard, BeginsAt, FindsMin, FinishesAt};
 ghost use Rattle.told.specs.Told.{Called};
 use card::Card;
+use image::CARD_WORDS;
 use record::Leaf;
 use record::Stamp;
 use request::Waiting;
+use told::ANSWER_WORDS;
 
 #[no_mangle]
 pub extern "C" fn nwidarap_start(
-    card: &mut [u64; 272],
-    answer: &mut [u64; 6],
+    card: &mut [u64; CARD_WORDS],
+    answer: &mut [u64; ANSWER_WORDS],
     h: u64,
     z: u64,
     r: u64,
@@ -28,8 +30,8 @@ pub extern "C" fn nwidarap_start(
 
 #[no_mangle]
 pub extern "C" fn nwidarap_insert(
-    card: &mut [u64; 272],
-    answer: &mut [u64; 6],
+    card: &mut [u64; CARD_WORDS],
+    answer: &mut [u64; ANSWER_WORDS],
     key: u64,
     value: u64,
     label: u64,
@@ -46,8 +48,8 @@ pub extern "C" fn nwidarap_insert(
 
 #[no_mangle]
 pub extern "C" fn nwidarap_extract(
-    card: &mut [u64; 272],
-    answer: &mut [u64; 6],
+    card: &mut [u64; CARD_WORDS],
+    answer: &mut [u64; ANSWER_WORDS],
     list: &mut [u64],
 ) -> u64
     ensures { λ n. ⌜ BeginsAt Waiting.Extract (now (card .entry)) (now (list .entry)) n (now (card .exit)) (now (answer .exit)) (now (list .exit)) ⌝ }
@@ -59,8 +61,8 @@ pub extern "C" fn nwidarap_extract(
 
 #[no_mangle]
 pub extern "C" fn nwidarap_delete(
-    card: &mut [u64; 272],
-    answer: &mut [u64; 6],
+    card: &mut [u64; CARD_WORDS],
+    answer: &mut [u64; ANSWER_WORDS],
     label: u64,
     stamp: u64,
     list: &mut [u64],
@@ -74,7 +76,7 @@ pub extern "C" fn nwidarap_delete(
 
 // The card is lent to be read: its words stay, those of fields that its kind does not use, too.
 #[no_mangle]
-pub extern "C" fn nwidarap_find_min(card: &[u64; 272], answer: &mut [u64; 6]) -> u64
+pub extern "C" fn nwidarap_find_min(card: &[u64; CARD_WORDS], answer: &mut [u64; ANSWER_WORDS]) -> u64
     ensures { λ n. ⌜ FindsMin (now (card .entry)) n (now (answer .exit)) ⌝ }
 {
     let taken = held::card_of(card);
@@ -84,7 +86,7 @@ pub extern "C" fn nwidarap_find_min(card: &[u64; 272], answer: &mut [u64; 6]) ->
 }
 
 #[no_mangle]
-pub extern "C" fn nwidarap_withdraw(card: &mut [u64; 272], answer: &mut [u64; 6]) -> u64
+pub extern "C" fn nwidarap_withdraw(card: &mut [u64; CARD_WORDS], answer: &mut [u64; ANSWER_WORDS]) -> u64
     ensures { λ n. ⌜ Called (onCard (now (card .entry)) withdrawTable) (withdrawn (cardIn (now (card .entry)))) (now (card .entry)) n (now (card .exit)) (now (answer .exit)) ⌝ }
 {
     let taken = held::card_of(card);
@@ -94,8 +96,8 @@ pub extern "C" fn nwidarap_withdraw(card: &mut [u64; 272], answer: &mut [u64; 6]
 
 #[no_mangle]
 pub extern "C" fn nwidarap_finish(
-    card: &mut [u64; 272],
-    answer: &mut [u64; 6],
+    card: &mut [u64; CARD_WORDS],
+    answer: &mut [u64; ANSWER_WORDS],
     words: &mut [u64],
 ) -> u64
     ensures { λ n. ⌜ FinishesAt (now (card .entry)) (now (words .entry)) n (now (card .exit)) (now (answer .exit)) (now (words .exit)) ⌝ }

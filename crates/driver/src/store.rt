@@ -4,9 +4,10 @@ ghost use Rattle.path.specs.Layout.{freshTree};
 ghost use Rattle.rack.specs.Answers.{fillRefusal, copyRefusal};
 ghost use Rattle.copies.specs.Copy.{listed, fetched, stored};
 ghost use Rattle.driver.specs.Driven.{Racked};
+use told::ANSWER_WORDS;
 
 #[no_mangle]
-pub extern "C" fn nwidarap_fill(answer: &mut [u64; 6], h: u64, z: u64, tree: &mut [u64]) -> u64
+pub extern "C" fn nwidarap_fill(answer: &mut [u64; ANSWER_WORDS], h: u64, z: u64, tree: &mut [u64]) -> u64
     ensures { λ n. ⌜ Racked (fillRefusal h z (now (tree .entry))) (freshTree h z) (now (tree .entry)) n (now (answer .exit)) (now (tree .exit)) ⌝ }
 {
     let said = rack::fill(tree, h, z);
@@ -15,7 +16,7 @@ pub extern "C" fn nwidarap_fill(answer: &mut [u64; 6], h: u64, z: u64, tree: &mu
 
 #[no_mangle]
 pub extern "C" fn nwidarap_fetch(
-    answer: &mut [u64; 6],
+    answer: &mut [u64; ANSWER_WORDS],
     h: u64,
     z: u64,
     whole: usize,
@@ -32,7 +33,7 @@ pub extern "C" fn nwidarap_fetch(
 
 #[no_mangle]
 pub extern "C" fn nwidarap_store(
-    answer: &mut [u64; 6],
+    answer: &mut [u64; ANSWER_WORDS],
     h: u64,
     z: u64,
     whole: usize,

@@ -6,9 +6,10 @@
 ghost use mathlib.Core.Path.{_≡_};
 ghost use Rattle.held.specs.Held.{heldIn};
 use card::Card;
+use image::CARD_WORDS;
 use path::Sizes;
 
-pub fn card_of(words: &[u64; 272]) -> Card
+pub fn card_of(words: &[u64; CARD_WORDS]) -> Card
     ensures { λ k. ⌜ k ≡ heldIn (now (words .entry)) ⌝ }
 {
     if image::is_odd(words) {

@@ -8,9 +8,13 @@ ghost use Rattle.rack.specs.Answers.{answerNumber};
 ghost use Rattle.told.specs.Told.{Said, Settled, Zeroed};
 use answers::Answer;
 use card::Done;
+use image::CARD_WORDS;
+
+// How many words an answer is.
+pub const ANSWER_WORDS: usize = 6;
 
 // For crates above: what a call answered, its number and its six values.
-pub fn say(said: Answer, answer: &mut [u64; 6]) -> u64
+pub fn say(said: Answer, answer: &mut [u64; ANSWER_WORDS]) -> u64
     ensures { λ r. ⌜ Said (numberOf said) (valuesOf said) r (now (answer .exit)) ⌝ }
 {
     *answer = answers::values_of(said);
@@ -18,7 +22,7 @@ pub fn say(said: Answer, answer: &mut [u64; 6]) -> u64
 }
 
 // For crates above: a card's call, its number and its six values, and unless that is a refusal the card's words.
-pub fn settle(done: Done, card: &mut [u64; 272], answer: &mut [u64; 6]) -> u64
+pub fn settle(done: Done, card: &mut [u64; CARD_WORDS], answer: &mut [u64; ANSWER_WORDS]) -> u64
     ensures { λ r. ⌜ Settled done (now (card .entry)) r (now (card .exit)) (now (answer .exit)) ⌝ }
 {
     let said = done.answer;
@@ -32,9 +36,9 @@ pub fn settle(done: Done, card: &mut [u64; 272], answer: &mut [u64; 6]) -> u64
 }
 
 // For crates above: a rack's call, its number and an answer of zeros.
-pub fn tell(said: rack::Answer, answer: &mut [u64; 6]) -> u64
+pub fn tell(said: rack::Answer, answer: &mut [u64; ANSWER_WORDS]) -> u64
     ensures { λ r. ⌜ Zeroed (answerNumber said) r (now (answer .exit)) ⌝ }
 {
-    *answer = [0, 0, 0, 0, 0, 0];
+    *answer = [0; ANSWER_WORDS];
     said.number()
 }
