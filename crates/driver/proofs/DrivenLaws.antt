@@ -63,26 +63,26 @@ module _ (ws : List ℕ) (table : Card → List Refusal) (none : firstGiven (tab
         lent-on (oddKind ws) refl (rw e at l)
 
   module _
-    (done : Card → Done) (d : Done) (n : ℕ) (told′ : List ℕ) (k : Card) (e : k ≡ heldIn ws)
-    (a : Answered k (firstGiven (table k)) (done k) d)
+      (done : Card → Done) (d : Done) (n : ℕ) (told′ : List ℕ) (k : Card) (e : k ≡ heldIn ws)
+      (a : Answered k (firstGiven (table k)) (done k) d)
     where
-    pub held-said :
-        Said (numberOf (d .answer)) (valuesOf (d .answer)) n told′ → Answering (onCard ws table) (done (cardIn ws) .answer) n told′
-    held-said s =
-        let g = answering k _ (done k) d n told′ a s in
-        let same : firstGiven (table k) ≡ onCard ws table = ap (λ (x : Card). firstGiven (table x)) e ∙ held-number (oddKind ws) refl in
-        record {
-          number = g .number ∙ same;
-          answer = held-lent (λ x. valuesOf (done x .answer)) noValues told′ k e (g .answer);
-        }
+      pub held-said :
+          Said (numberOf (d .answer)) (valuesOf (d .answer)) n told′ → Answering (onCard ws table) (done (cardIn ws) .answer) n told′
+      held-said s =
+          let g = answering k _ (done k) d n told′ a s in
+          let same : firstGiven (table k) ≡ onCard ws table = ap (λ (x : Card). firstGiven (table x)) e ∙ held-number (oddKind ws) refl in
+          record {
+            number = g .number ∙ same;
+            answer = held-lent (λ x. valuesOf (done x .answer)) noValues told′ k e (g .answer);
+          }
 
-    pub held-called :
-        (ws′ : List ℕ) → Settled d ws n ws′ told′ → Called (onCard ws table) (done (cardIn ws)) ws n ws′ told′
-    held-called ws′ s =
-        record {
-          said = held-said (s .said);
-          card = held-lent (λ x. imageOf (done x .card)) ws ws′ k e (called k _ (done k) d ws n ws′ told′ a s .card);
-        }
+      pub held-called :
+          (ws′ : List ℕ) → Settled d ws n ws′ told′ → Called (onCard ws table) (done (cardIn ws)) ws n ws′ told′
+      held-called ws′ s =
+          record {
+            said = held-said (s .said);
+            card = held-lent (λ x. imageOf (done x .card)) ws ws′ k e (called k _ (done k) d ws n ws′ told′ a s .card);
+          }
 
 -- ---- a begin
 pub held-begin :

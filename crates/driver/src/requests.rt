@@ -76,7 +76,10 @@ pub extern "C" fn nwidarap_delete(
 
 // The card is lent to be read: its words stay, those of fields that its kind does not use, too.
 #[no_mangle]
-pub extern "C" fn nwidarap_find_min(card: &[u64; CARD_WORDS], answer: &mut [u64; ANSWER_WORDS]) -> u64
+pub extern "C" fn nwidarap_find_min(
+    card: &[u64; CARD_WORDS],
+    answer: &mut [u64; ANSWER_WORDS],
+) -> u64
     ensures { λ n. ⌜ FindsMin (now (card .entry)) n (now (answer .exit)) ⌝ }
 {
     let taken = held::card_of(card);
@@ -86,7 +89,10 @@ pub extern "C" fn nwidarap_find_min(card: &[u64; CARD_WORDS], answer: &mut [u64;
 }
 
 #[no_mangle]
-pub extern "C" fn nwidarap_withdraw(card: &mut [u64; CARD_WORDS], answer: &mut [u64; ANSWER_WORDS]) -> u64
+pub extern "C" fn nwidarap_withdraw(
+    card: &mut [u64; CARD_WORDS],
+    answer: &mut [u64; ANSWER_WORDS],
+) -> u64
     ensures { λ n. ⌜ Called (onCard (now (card .entry)) withdrawTable) (withdrawn (cardIn (now (card .entry)))) (now (card .entry)) n (now (card .exit)) (now (answer .exit)) ⌝ }
 {
     let taken = held::card_of(card);

@@ -7,7 +7,12 @@ ghost use Rattle.driver.specs.Driven.{Racked};
 use told::ANSWER_WORDS;
 
 #[no_mangle]
-pub extern "C" fn nwidarap_fill(answer: &mut [u64; ANSWER_WORDS], h: u64, z: u64, tree: &mut [u64]) -> u64
+pub extern "C" fn nwidarap_fill(
+    answer: &mut [u64; ANSWER_WORDS],
+    h: u64,
+    z: u64,
+    tree: &mut [u64],
+) -> u64
     ensures { λ n. ⌜ Racked (fillRefusal h z (now (tree .entry))) (freshTree h z) (now (tree .entry)) n (now (answer .exit)) (now (tree .exit)) ⌝ }
 {
     let said = rack::fill(tree, h, z);

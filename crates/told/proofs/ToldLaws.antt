@@ -14,14 +14,14 @@ use Rattle.told.specs.Told.{Said, Answering, Called, Settled}
 
 -- ---- settled
 module _
-  (done : Done) (held : List ℕ) (n : ℕ) (told′ : List ℕ) (s : Said (numberOf (done .answer)) (valuesOf (done .answer)) n told′)
+    (done : Done) (held : List ℕ) (n : ℕ) (told′ : List ℕ) (s : Said (numberOf (done .answer)) (valuesOf (done .answer)) n told′)
   where
-  pub settled-refused : (n ≡ 0 → ⊥) → Settled done held n held told′
-  settled-refused h = record { said = s; card = sym (left-before (numberOf (done .answer)) _ held (λ e. h (s .number ∙ e))) }
+    pub settled-refused : (n ≡ 0 → ⊥) → Settled done held n held told′
+    settled-refused h = record { said = s; card = sym (left-before (numberOf (done .answer)) _ held (λ e. h (s .number ∙ e))) }
 
-  pub settled-done : (held′ : List ℕ) → n ≡ 0 → held′ ≡ imageOf (done .card) → Settled done held n held′ told′
-  settled-done held′ h c =
-      record { said = s; card = c ∙ sym (left-done (numberOf (done .answer)) _ held (sym (s .number) ∙ h)) }
+    pub settled-done : (held′ : List ℕ) → n ≡ 0 → held′ ≡ imageOf (done .card) → Settled done held n held′ told′
+    settled-done held′ h c =
+        record { said = s; card = c ∙ sym (left-done (numberOf (done .answer)) _ held (sym (s .number) ∙ h)) }
 
 -- ---- a call that was settled
 module _ (k : Card) (number : ℕ) (done d : Done) (n : ℕ) (told′ : List ℕ) (a : Answered k number done d) where
