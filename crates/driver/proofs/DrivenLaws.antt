@@ -1,20 +1,18 @@
 -- The entrance against the calls by value: the kind first, then as the call itself. Assumes nothing.
 use Prim.Native.Nat.{ℕ, zero, suc}
-use mathlib.Core.Bool.{Bool, true, false, cond}
+use mathlib.Core.Bool.{Bool, true, false}
 use mathlib.Core.List.{List}
 use mathlib.Core.Path.{_≡_, refl, sym, ap, _∙_}
-use native.Mathlib.Omega.{arith}
-use lib.Dec.{eqb}
 use lib.ListN.{length}
-use borrow.Author.Tests.{ne-eqb}
 use Rattle.lists.specs.BucketList.{laid}
 use Rattle.refusal.specs.Refusal.{Refusal, firstGiven, afterwards}
+use Rattle.refusal.proofs.RefusalLaws.{left-done}
 use Rattle.card.specs.declared.Card.{Card}
 use Rattle.card.specs.declared.Done.{Done}
 use Rattle.request.specs.declared.Waiting.{Waiting}
 use Rattle.answers.specs.Answers.{numberOf, valuesOf, noValues}
 use Rattle.card.specs.Answers.{orRefused, Answered}
-use Rattle.card.specs.Calls.{listOf, beginTable, begun, Begins, foundMin}
+use Rattle.card.specs.Calls.{listOf, beginTable, begun, Begins, minTable, foundMin}
 use Rattle.card.specs.Finish.{finishTable, finished, Finishes}
 use Rattle.image.specs.Image.{imageOf}
 use Rattle.image.specs.Reading.{cardIn, oddKind}
@@ -26,7 +24,7 @@ use Rattle.rack.specs.Answers.{answerNumber}
 use Rattle.rack.specs.Promises.{Answers}
 use Rattle.told.specs.Told.{Said, Answering, Called, Settled, Zeroed}
 use Rattle.told.proofs.ToldLaws.{answering, answered, called, card-left}
-use Rattle.driver.specs.Driven.{onCard, beginNumber, BeginsAt, finishNumber, leftOn, FinishesAt, Racked, EqualsFirst}
+use Rattle.driver.specs.Driven.{onCard, BeginsAt, FindsMin, leftOn, FinishesAt, Racked, EqualsFirst}
 
 -- ---- the kind comes first
 module _ (ws : List ℕ) (table : Card → List Refusal) where
@@ -40,7 +38,7 @@ module _ (ws : List ℕ) (table : Card → List Refusal) where
 
 -- ---- a call on the card that is held
 module _ (ws : List ℕ) (table : Card → List Refusal) (none : firstGiven (table noCard) ≡ 13) where
-  -- the same refusal; and where there is none, the words are a card's
+  -- the same refusal
   held-number : (b : Bool) → oddKind ws ≡ b → firstGiven (table (heldIn ws)) ≡ onCard ws table
   held-number true h = ap (λ (k : Card). firstGiven (table k)) (held-odd ws h) ∙ none ∙ sym (odd-card ws table h)
   held-number false h = ap (λ (k : Card). firstGiven (table k)) (held-even ws h) ∙ sym (even-card ws table h)
@@ -119,7 +117,7 @@ module _ (k : Card) (table : Card → List Refusal) where
   image-number = even-card (imageOf k) table (image-even k) ∙ ap (λ (x : Card). firstGiven (table x)) (card-image k)
 
   module _ (done : Card → Done) (d : Done) (n : ℕ) (a : Answered k (firstGiven (table k)) (done k) d) where
-    pub image-said :
+    image-said :
         (told′ : List ℕ) → Answering (onCard (imageOf k) table) (done (cardIn (imageOf k)) .answer) n told′
         → Said (numberOf (d .answer)) (valuesOf (d .answer)) n told′
     image-said told′ s = answered k _ (done k) d n told′ a (rw (image-number, card-image k) at s)
@@ -136,9 +134,15 @@ unfolding orRefused
 unchanged k zero d e = ap (λ (x : Done). x .card) e
 unchanged k (suc number) d e = ap (λ (x : Done). x .card) e
 
--- FindMin by value hands back the card that it was given: the words that were lent to be read are its image
-pub image-unchanged : (k : Card) (number : ℕ) (d : Done) → Answered k number (foundMin k) d → imageOf k ≡ imageOf (d .card)
-image-unchanged k number d a = sym (ap imageOf (unchanged k number d (a .whole)))
+-- FindMin: the words that were lent to be read are the image of the card that the call by value hands back
+pub image-finds :
+    (k : Card) (d : Done) (n : ℕ) (told′ : List ℕ) → Answered k (firstGiven (minTable k)) (foundMin k) d
+    → FindsMin (imageOf k) n told′ → EqualsFirst d n (imageOf k) told′
+image-finds k d n told′ a s =
+    record {
+      said = image-said k minTable foundMin d n a told′ s;
+      card = sym (ap imageOf (unchanged k (firstGiven (minTable k)) d (a .whole)));
+    }
 
 pub image-begins :
     (k : Card) (w : Waiting) (list after : List ℕ) (d : Done) (n : ℕ) (held′ told′ list′ : List ℕ) → Begins k w list after d
@@ -155,3 +159,13 @@ image-finishes k fetched after d n held′ told′ words′ f c =
     let table : Card → List Refusal = λ x. finishTable x fetched in
     let p : words′ ≡ afterwards (firstGiven (table k)) (leftOn k fetched) fetched = rw (image-number k table, card-image k) at (c .words) in
     (image-called k table (λ x. finished x fetched) d n (f .call) held′ told′ (c .call), p ∙ sym (f .words))
+
+-- a start is given no card: where it is refused the lent words stay, and where it is not they are those of the card that the call by
+-- value makes
+pub start-called :
+    (k : Card) (number : ℕ) (done d : Done) (held : List ℕ) (n : ℕ) (held′ told′ : List ℕ) → Answered k number done d
+    → Called number done held n held′ told′ → n ≡ 0 → EqualsFirst d n held′ told′
+start-called k number done d held n held′ told′ a c e =
+    let z : number ≡ 0 = sym (c .said .number) ∙ e in
+    let made = sym (left-done number _ (imageOf k) z) ∙ card-left k number done d (a .whole) in
+    record { said = answered k number done d n told′ a (c .said); card = c .card ∙ left-done number _ held z ∙ made }

@@ -4,8 +4,7 @@ use mathlib.Core.List.{List}
 use mathlib.Core.Path.{_≡_, refl, sym, ap, _∙_}
 use Rattle.card.specs.declared.Card.{Card}
 use Rattle.card.specs.declared.Done.{Done}
-use Rattle.answers.specs.declared.Answer.{Answer}
-use Rattle.answers.specs.Answers.{numberOf, valuesOf, noValues}
+use Rattle.answers.specs.Answers.{numberOf, valuesOf}
 use Rattle.card.specs.Answers.{orRefused, Answered}
 use Rattle.image.specs.Image.{imageOf}
 use Rattle.refusal.specs.Refusal.{afterwards}
