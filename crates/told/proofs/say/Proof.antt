@@ -10,7 +10,7 @@ number-of-requires : tie.Need-number-of-requires
 number-of-requires c κs = search needs
 
 returns : tie.Need-returns
-returns c = record { number = c .number-of .ensures; answer = c .before .values-of .ensures }
+returns c = search needs
 
 pub say-spec : {M : Type 1} → statement M
 say-spec = tie.close (tie.spec values-of-requires number-of-requires returns)
