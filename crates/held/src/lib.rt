@@ -2,7 +2,7 @@
 // sizes out of range".
 //
 // No card has a kind above 3. Such words are taken as a card of height 0, so that the card's own call finds it bad, and what is
-// lent to the call stays as it was. Stands on `path`, `card` and `image`.
+// lent to the call stays as it was. Stands on `path`, `refusal`, `request`, `card` and `image`.
 ghost use mathlib.Core.Path.{_≡_};
 ghost use Rattle.held.specs.Held.{heldIn};
 use card::Card;
