@@ -23,6 +23,8 @@ use Rattle.driver.proofs.nwidarap_fetch.Kinds as fetch-kinds
 use Rattle.driver.proofs.nwidarap_fetch.Reads as fetch
 use Rattle.driver.proofs.nwidarap_store.Kinds as store-kinds
 use Rattle.driver.proofs.nwidarap_store.Reads as store
+use Rattle.told.proofs.say.Kinds as say-kinds
+use Rattle.told.proofs.say.Reads as say
 use Rattle.told.proofs.settle.Kinds as settle-kinds
 use Rattle.told.proofs.settle.Reads as settle
 use Rattle.told.proofs.tell.Kinds as tell-kinds
@@ -49,37 +51,37 @@ use Rattle.image.proofs.write.Reads as write
 pub one-start : Determines 2 start-kinds.ps start-kinds.r start.Asked start.Learnt
 one-start =
     one-answer 2 start-kinds.ps start-kinds.r start.Asked start.Learnt _ _
-    (λ κs a ok x xs f p. (p .number, λ i. (p .card i, (p .answer i, (tt, (tt, (tt, (tt, tt))))))))
+    (λ κs a ok x xs f p. (p .said .number, λ i. (p .card i, (p .said .answer i, (tt, (tt, (tt, (tt, tt))))))))
 
 pub one-insert : Determines 3 insert-kinds.ps insert-kinds.r insert.Asked insert.Learnt
 one-insert =
     one-answer 3 insert-kinds.ps insert-kinds.r insert.Asked insert.Learnt _ _
-    (λ κs a ok x xs f p. (p .call .number, λ i. (p .call .card i, (p .call .answer i, (tt, (tt, (tt, (tt, (tt, (p .places i, tt))))))))))
+    (λ κs a ok x xs f p. (p .call .said .number, λ i. (p .call .card i, (p .call .said .answer i, (tt, (tt, (tt, (tt, (tt, (p .places i, tt))))))))))
 
 pub one-extract : Determines 3 extract-kinds.ps extract-kinds.r extract.Asked extract.Learnt
 one-extract =
     one-answer 3 extract-kinds.ps extract-kinds.r extract.Asked extract.Learnt _ _
-    (λ κs a ok x xs f p. (p .call .number, λ i. (p .call .card i, (p .call .answer i, (p .places i, tt)))))
+    (λ κs a ok x xs f p. (p .call .said .number, λ i. (p .call .card i, (p .call .said .answer i, (p .places i, tt)))))
 
 pub one-delete : Determines 3 delete-kinds.ps delete-kinds.r delete.Asked delete.Learnt
 one-delete =
     one-answer 3 delete-kinds.ps delete-kinds.r delete.Asked delete.Learnt _ _
-    (λ κs a ok x xs f p. (p .call .number, λ i. (p .call .card i, (p .call .answer i, (tt, (tt, (p .places i, tt)))))))
+    (λ κs a ok x xs f p. (p .call .said .number, λ i. (p .call .card i, (p .call .said .answer i, (tt, (tt, (p .places i, tt)))))))
 
 pub one-find-min : Determines 2 find-min-kinds.ps find-min-kinds.r find-min.Asked find-min.Learnt
 one-find-min =
     one-answer 2 find-min-kinds.ps find-min-kinds.r find-min.Asked find-min.Learnt _ _
-    (λ κs a ok x xs f p. (p .number, λ i. (p .card i, (p .answer i, tt))))
+    (λ κs a ok x xs f p. (p .number, λ i. (tt, (p .answer i, tt))))
 
 pub one-withdraw : Determines 2 withdraw-kinds.ps withdraw-kinds.r withdraw.Asked withdraw.Learnt
 one-withdraw =
     one-answer 2 withdraw-kinds.ps withdraw-kinds.r withdraw.Asked withdraw.Learnt _ _
-    (λ κs a ok x xs f p. (p .number, λ i. (p .card i, (p .answer i, tt))))
+    (λ κs a ok x xs f p. (p .said .number, λ i. (p .card i, (p .said .answer i, tt))))
 
 pub one-finish : Determines 3 finish-kinds.ps finish-kinds.r finish.Asked finish.Learnt
 one-finish =
     one-answer 3 finish-kinds.ps finish-kinds.r finish.Asked finish.Learnt _ _
-    (λ κs a ok x xs f p. (p .call .number, λ i. (p .call .card i, (p .call .answer i, (p .words i, tt)))))
+    (λ κs a ok x xs f p. (p .call .said .number, λ i. (p .call .card i, (p .call .said .answer i, (p .words i, tt)))))
 
 pub one-fill : Determines 2 fill-kinds.ps fill-kinds.r fill.Asked fill.Learnt
 one-fill =
@@ -96,10 +98,15 @@ one-store =
     one-answer 4 store-kinds.ps store-kinds.r store.Asked store.Learnt _ _
     (λ κs a ok x xs f p. (p .call .number, λ i. (p .call .answer i, (tt, (tt, (tt, (tt, (tt, (tt, (p .lent i, tt))))))))))
 
+pub one-say : Determines 1 say-kinds.ps say-kinds.r say.Asked say.Learnt
+one-say =
+    one-answer 1 say-kinds.ps say-kinds.r say.Asked say.Learnt _ _
+    (λ κs a ok x xs f p. (p .number, λ i. (tt, (p .answer i, tt))))
+
 pub one-settle : Determines 2 settle-kinds.ps settle-kinds.r settle.Asked settle.Learnt
 one-settle =
     one-answer 2 settle-kinds.ps settle-kinds.r settle.Asked settle.Learnt _ _
-    (λ κs a ok x xs f p. (p .number, λ i. (tt, (p .card i, (p .answer i, tt)))))
+    (λ κs a ok x xs f p. (p .said .number, λ i. (tt, (p .card i, (p .said .answer i, tt)))))
 
 pub one-tell : Determines 1 tell-kinds.ps tell-kinds.r tell.Asked tell.Learnt
 one-tell =
