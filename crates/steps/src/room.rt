@@ -1,6 +1,5 @@
 // How many of the lent words are the tree: document 01, "The tree has exactly 4(Z+1)(2N-2) words".
 ghost use mathlib.Core.Path.{_≡_};
-ghost use Prim.Native.Nat.{min};
 ghost use Rattle.steps.specs.Step.{treeWordsUsed, usedOf};
 use path::tree_in_range;
 
