@@ -4,7 +4,7 @@ use Prim.Native.Nat.{ℕ, zero, suc, _*_, _+_, _≤_}
 use mathlib.Core.Bool.{Bool, true, false}
 use mathlib.Core.List.{List, [], _∷_, List·Memᴰ, List·Memᴰ·head, List·Memᴰ·tail}
 use mathlib.Core.Logic.{inl, inr}
-use mathlib.Core.Path.{_≡_, refl, sym, _∙_}
+use mathlib.Core.Path.{_≡_, refl}
 use mathlib.Mathlib.Data.Bool.Basic.{dichotomy}
 use native.Mathlib.Omega.{arith}
 use lib.ListN.{length}
@@ -19,7 +19,7 @@ use Rattle.damage.specs.Damaged.{pathDamaged}
 use Rattle.damage.proofs.Found.{shown-extract-by-name}
 use Rattle.judge.specs.BadParts.{stampOf}
 use Rattle.settle.specs.declared.Settled.{Settled}
-use Rattle.settle.specs.Left.{Left, pathWay, removal, removalDamaged}
+use Rattle.settle.specs.Left.{pathWay, removal, removalDamaged}
 use Rattle.settle.specs.Room.{RemovalRoom}
 use Rattle.settle.specs.Settled.{Settles}
 use Rattle.settle.proofs.PreparedLaws.{settles-same}
