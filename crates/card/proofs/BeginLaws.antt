@@ -24,9 +24,9 @@ use Rattle.card.specs.declared.Card.{Card}
 use Rattle.request.specs.declared.Waiting.{Waiting}
 use Rattle.request.specs.declared.Waiting.the-variants.{Nothing, Insert, Extract, Delete}
 use Rattle.request.proofs.RequestLaws.{request-numbered}
-use Rattle.listing.specs.Listing.{countsFor, placesFor, leavesWithin, Listable}
+use Rattle.listing.specs.Listing.{listFor, countsFor, placesFor, leavesWithin, Listable}
 use Rattle.listing.proofs.ListingLaws.{counts-for}
-use Rattle.checks.specs.Checks.{badWith, busyRows}
+use Rattle.checks.specs.Checks.{badWith, busyRows, beginChecks}
 use Rattle.checks.proofs.CheckLaws.{begin-fault, begin-room}
 use Rattle.request.specs.Tables.{badLabel, insertRows, extractRows, deleteRows, requestRows, waits}
 use Rattle.card.specs.Tables.{leavesIn, nextStamp, requestTable}
@@ -162,8 +162,16 @@ listable k w room b =
       place = b .place;
     }
 
--- ---- what a begin answers
-module _ (k : Card) (w : Waiting) (before : List ℕ) (number : ℕ) (why : number ≡ firstGiven (beginTable k w (length before))) where
+-- ---- what a begin answers, told by the number that the checks of the parts gave
+module _ (k : Card) (w : Waiting) (before : List ℕ) (number : ℕ)
+    (given : number ≡ firstGiven (beginChecks (k .sizes) (k .t) (k .c) (k .root) (k .least) (k .waiting) w (length before))) where
+  why : number ≡ firstGiven (beginTable k w (length before))
+  unfolding beginTable badCard listOf
+  why = given
+
+  pub may-list : number ≡ 0 → Listable (k .sizes) (k .least .label) w (length before)
+  may-list z = listable k w (length before) (accepted k w (length before) (sym why ∙ z))
+
   pub begin-refused : (number ≡ 0 → ⊥) → Begins k w before before (refused k number)
   begin-refused h =
       record {
@@ -171,8 +179,9 @@ module _ (k : Card) (w : Waiting) (before : List ℕ) (number : ℕ) (why : numb
         places = rw (← why) (sym (left-before number _ before h));
       }
 
-  pub begin-done : (after : List ℕ) (n : Counts) → number ≡ 0 → Names (listOf k w) before after n
+  pub begin-done : (after : List ℕ) (n : Counts) → number ≡ 0 → Names (listFor (k .sizes .h) (k .least .label) w) before after n
       → Begins k w before after (begunWith k w n)
+  unfolding listOf
   begin-done after n h l =
       record {
         call = rw (← why, l .counted) (is-done k number (begun k w) h refl);

@@ -25,6 +25,7 @@ use Rattle.request.specs.Tables.{waits}
 use Rattle.card.specs.Tables.{leavesIn, nextStamp, requestTable}
 use Rattle.listing.specs.Listing.{countsFor, wordsAsked}
 use Rattle.listing.proofs.ListingLaws.{counts-for}
+use Rattle.checks.specs.Checks.{entryChecks}
 use Rattle.card.specs.Calls.{listOf}
 use Rattle.card.specs.Finish.{wordsNeeded, entryTable}
 use Rattle.card.proofs.GoodLaws.{Good, good}
@@ -49,6 +50,12 @@ module _ (k : Card) (room : ℕ) where
     pub words-enough : wordsNeeded k ≤ room → firstGiven (entryTable k room) ≡ 0
     unfolding entryTable firstGiven
     words-enough l = rw (fine, busy, le-ltb _ _ l)
+
+  -- what the checks of the parts give is what the table gives
+  pub entry-given : (n : ℕ) → n ≡ firstGiven (entryChecks (k .sizes) (k .t) (k .c) (k .root) (k .least) (k .waiting) room)
+      → n ≡ firstGiven (entryTable k room)
+  unfolding entryTable badCard listOf
+  entry-given n e = e
 
   -- none of the three is given
   pub record Entered : Type 0 where
@@ -150,3 +157,14 @@ module _ (k : Card) (ws : List ℕ) where
 
   pub request-ready : firstGiven (entryTable k (length ws)) ≡ 0 → Finishable (k .sizes) (k .t) (k .c) (k .least) (k .waiting) ws
   request-ready f = parts-ready (k .waiting) refl f
+
+-- told by the number that the checks gave
+module _ (k : Card) (ws : List ℕ) (n : ℕ) (e : n ≡ firstGiven (entryChecks (k .sizes) (k .t) (k .c) (k .root) (k .least) (k .waiting) (length ws))) (z : n ≡ 0) where
+  pub checked-entry : firstGiven (entryTable k (length ws)) ≡ 0
+  checked-entry = sym (entry-given k (length ws) n e) ∙ z
+
+  pub checked-ready : Finishable (k .sizes) (k .t) (k .c) (k .least) (k .waiting) ws
+  checked-ready = request-ready k ws checked-entry
+
+  pub checked-clock : k .t ≤ 4294967295
+  checked-clock = clock-fits k (entered k (length ws) checked-entry .card)

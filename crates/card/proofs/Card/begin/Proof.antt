@@ -1,9 +1,5 @@
 use borrow.Author.Needs.{needs}
-use mathlib.Core.Path.{sym, _∙_}
-use lib.ListN.{length}
-use Rattle.card.specs.BadCard.{badCard}
-use Rattle.card.specs.Calls.{listOf, beginTable}
-use Rattle.card.proofs.BeginLaws.{accepted, listable, begin-refused, begin-done}
+use Rattle.card.proofs.BeginLaws.{begin-refused, may-list, begin-done}
 use Rattle.card.proofs.Card.begin.Statement.{statement}
 use Rattle.card.proofs.Card.begin.Tie as tie
 
@@ -14,18 +10,16 @@ refuse-requires : tie.Need-refuse-requires
 refuse-requires c κs = search needs
 
 returns : tie.Need-returns
-unfolding beginTable badCard listOf
 returns c =
     let checked = c .before .before in
     let s = checked .before .before .before .before .args in
     rw (c .refuse .ensures) (begin-refused (s .self) (s .request) (s .list .now) _ (checked .why-begin .ensures) (c .before .if1 .taken))
 
 list-for-requires : tie.Need-list-for-requires
-unfolding beginTable badCard listOf
 list-for-requires c κs =
     let checked = c .before .before in
     let s = checked .before .before .before .before .args in
-    listable (s .self) (s .request) (length (s .list .now)) (accepted (s .self) (s .request) (length (s .list .now)) (sym (checked .why-begin .ensures) ∙ c .before .if1 .left))
+    may-list (s .self) (s .request) (s .list .now) _ (checked .why-begin .ensures) (c .before .if1 .left)
 
 begun-requires : tie.Need-begun-requires
 begun-requires c κs = search needs
@@ -34,7 +28,6 @@ same-length : tie.Need-same-length
 same-length c = search needs
 
 returns-2 : tie.Need-returns-2
-unfolding beginTable badCard listOf
 returns-2 c =
     let laid = c .before .before .before in
     let checked = laid .before .before .before in

@@ -1,10 +1,5 @@
 use borrow.Author.Needs.{needs}
-use mathlib.Core.Path.{sym, _∙_}
-use lib.ListN.{length}
-use Rattle.card.specs.BadCard.{badCard}
-use Rattle.card.specs.Calls.{listOf}
-use Rattle.card.specs.Finish.{entryTable}
-use Rattle.card.proofs.FinishLaws.{entered, clock-fits, request-ready}
+use Rattle.card.proofs.FinishLaws.{entry-given, checked-entry, checked-ready, checked-clock}
 use Rattle.card.proofs.FinishedLaws.{entry-refused, request-damaged, request-done}
 use Rattle.card.proofs.Card.finish.Statement.{statement}
 use Rattle.card.proofs.Card.finish.Tie as tie
@@ -16,18 +11,16 @@ refuse-requires : tie.Need-refuse-requires
 refuse-requires c κs = search needs
 
 returns : tie.Need-returns
-unfolding entryTable badCard listOf
 returns c =
     let entry = c .before .before in
     let s = entry .before .before .before .before .args in
-    rw (c .refuse .ensures) (entry-refused (s .self) (s .words .now) _ (entry .why-finish .ensures) (c .before .if1 .taken))
+    rw (c .refuse .ensures) (entry-refused (s .self) (s .words .now) _ (entry-given (s .self) _ _ (entry .why-finish .ensures)) (c .before .if1 .taken))
 
 settle-request-requires : tie.Need-settle-request-requires
-unfolding entryTable badCard listOf
 settle-request-requires c κs =
     let entry = c .before .before in
     let s = entry .before .before .before .before .args in
-    request-ready (s .self) (s .words .now) (sym (entry .why-finish .ensures) ∙ c .before .if1 .left)
+    checked-ready (s .self) (s .words .now) _ (entry .why-finish .ensures) (c .before .if1 .left)
 
 refuse-requires-2 : tie.Need-refuse-requires-2
 refuse-requires-2 c κs = search needs
@@ -36,31 +29,28 @@ same-length : tie.Need-same-length
 same-length c = search needs
 
 returns-2 : tie.Need-returns-2
-unfolding entryTable badCard listOf
 returns-2 c =
     let settled = c .before .before .before .before in
     let entry = settled .before .before .before in
     let s = entry .before .before .before .before .args in
-    request-damaged (s .self) (s .words .now) (sym (entry .why-finish .ensures) ∙ settled .before .before .if1 .left) _ _ (settled .settle-request .ensures) _ (c .before .if2 .taken) (c .refuse2 .ensures)
+    request-damaged (s .self) (s .words .now) (checked-entry (s .self) (s .words .now) _ (entry .why-finish .ensures) (settled .before .before .if1 .left)) _ _ (settled .settle-request .ensures) _ (c .before .if2 .taken) (c .refuse2 .ensures)
 
 done-with-requires : tie.Need-done-with-requires
-unfolding entryTable badCard listOf
 done-with-requires c κs =
     let settled = c .before .before .before in
     let entry = settled .before .before .before in
     let s = entry .before .before .before .before .args in
-    clock-fits (s .self) (entered (s .self) (length (s .words .now)) (sym (entry .why-finish .ensures) ∙ settled .before .before .if1 .left) .card)
+    checked-clock (s .self) (s .words .now) _ (entry .why-finish .ensures) (settled .before .before .if1 .left)
 
 same-length-2 : tie.Need-same-length-2
 same-length-2 c = search needs
 
 returns-3 : tie.Need-returns-3
-unfolding entryTable badCard listOf
 returns-3 c =
     let settled = c .before .before .before .before in
     let entry = settled .before .before .before in
     let s = entry .before .before .before .before .args in
-    request-done (s .self) (s .words .now) (sym (entry .why-finish .ensures) ∙ settled .before .before .if1 .left) _ _ (settled .settle-request .ensures) _ (c .before .if2 .left) (c .done-with .ensures)
+    request-done (s .self) (s .words .now) (checked-entry (s .self) (s .words .now) _ (entry .why-finish .ensures) (settled .before .before .if1 .left)) _ _ (settled .settle-request .ensures) _ (c .before .if2 .left) (c .done-with .ensures)
 
 pub finish-spec : {M : Type 1} → statement M
 finish-spec =
