@@ -1,5 +1,5 @@
 /* The card in plain C: what an engineer would write who works on the lent words where they stand. Every check of document 01 is
- * made, in its order; a refusal writes nothing. Finish is in plain_finish.c; plain.c has both. */
+ * made, in its order; a refusal writes six zeros into the answer and nothing else. Finish is in plain_finish.c; plain.c has both. */
 #include "plain_record.h"
 
 /* ---- BadCard and the refusals of a begin. */
@@ -108,6 +108,7 @@ static void set_request(uint64_t *card, uint64_t kind, const uint64_t *f)
 
 uint64_t plain_start(uint64_t *card, uint64_t *answer, uint64_t h, uint64_t z, uint64_t r, uint64_t t)
 {
+    no_answer(answer);
     if (sizes_bad(h, z, r, t))
         return 1;
     memset(card, 0, ROOT * sizeof *card);
@@ -115,7 +116,6 @@ uint64_t plain_start(uint64_t *card, uint64_t *answer, uint64_t h, uint64_t z, u
     card[LEAST] = DUMMY_KEY;
     for (size_t i = 0; i < PLACES; i++)
         root_of(card)[i] = DUMMY;
-    set_answer(answer, 0, 0, 0, 0, 0, 0);
     return 0;
 }
 
@@ -123,6 +123,7 @@ static uint64_t begin(uint64_t *card, uint64_t *answer, uint64_t kind, const uin
                       size_t list_words)
 {
     Sizes s;
+    no_answer(answer);
     if (bad_card(card, &s))
         return 13;
     if (card[KIND] != NOTHING)
@@ -178,13 +179,13 @@ uint64_t plain_delete(uint64_t *card, uint64_t *answer, uint64_t label, uint64_t
 uint64_t plain_find_min(uint64_t *card, uint64_t *answer)
 {
     Sizes s;
+    no_answer(answer);
     if (bad_card(card, &s))
         return 13;
     if (card[KIND] != NOTHING)
         return 2;
     if (card[LIVE] == 0)
         return 8;
-    memset(card + FIELDS, 0, 5 * sizeof *card);
     set_answer(answer, card[LEAST], card[LEAST + 1], card[LEAST + 2], card[LEAST + 3], 0, 0);
     return 0;
 }
@@ -192,12 +193,12 @@ uint64_t plain_find_min(uint64_t *card, uint64_t *answer)
 uint64_t plain_withdraw(uint64_t *card, uint64_t *answer)
 {
     Sizes s;
+    no_answer(answer);
     if (bad_card(card, &s))
         return 13;
     if (card[KIND] == NOTHING)
         return 3;
     uint64_t f[5] = {0};
     set_request(card, NOTHING, f);
-    set_answer(answer, 0, 0, 0, 0, 0, 0);
     return 0;
 }

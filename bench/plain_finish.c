@@ -201,6 +201,7 @@ static uint64_t finish_removal(uint64_t *card, uint64_t *answer, Record *words, 
 uint64_t plain_finish(uint64_t *card, uint64_t *answer, uint64_t *words, size_t words_words)
 {
     Sizes s;
+    no_answer(answer);
     if (bad_card(card, &s))
         return 13;
     if (card[KIND] == NOTHING)

@@ -54,4 +54,10 @@ static void set_answer(uint64_t *answer, uint64_t a, uint64_t b, uint64_t c, uin
     answer[0] = a, answer[1] = b, answer[2] = c, answer[3] = d, answer[4] = e, answer[5] = f;
 }
 
+/* A refusal's answer, which stands until there is another. */
+static void no_answer(uint64_t *answer)
+{
+    set_answer(answer, 0, 0, 0, 0, 0, 0);
+}
+
 #endif

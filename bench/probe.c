@@ -54,7 +54,7 @@ int main(void)
         if (!take(list, l) || !take(words, w) || !take(tree, t))
             return 0;
         for (int i = 0; i < 6; i++)
-            answer[i] = 0;
+            answer[i] = UINT64_MAX;
         uint64_t number = call(op, head + 1, card, l, w, t);
         give(&number, 1);
         give(answer, 6);

@@ -1,24 +1,27 @@
 /* The card and the rack of a Path Oblivious Heap, for drivers in C.
  *
- * Every function is proved, on every input, to leave exactly what this page says. The words are the paper's: card, rack,
+ * Each function's contract, which this page puts in words, is proved for every input. The words are the paper's: card, rack,
  * bucket, leaf, label, stamp, least record. Link the archive that `rt staticlib driver` writes, target/staticlib/libdriver.a
  * (x86-64 Linux). Beyond memcpy and memset it calls nothing; it keeps nothing between calls and allocates nothing.
  *
- * THE RETURN VALUE is 0, or the number of the refusal (NWIDARAP_BAD_SIZE and so on). After a refusal the card, the answer and
- * every slice are as they were, word for word. Refusals come in the order given with each function: the first that applies.
+ * THE RETURN VALUE is 0, or the number of the refusal (NWIDARAP_BAD_SIZE and so on). After a refusal the card and every slice
+ * are as they were, word for word, and the answer is six zeros. Refusals come in the order given with each function: the first
+ * that applies.
  *
- * THE ANSWER is six words; those that do not apply are 0:
+ * THE ANSWER is six words, all written by every call, whatever stood there; those that do not apply are 0:
  *     begin      whole, least, 0, 0, 0, 0       how many of the listed buckets are whole, how many least-record only
  *     FindMin    key, value, label, stamp, 0, 0
  *     finish     of Insert      0, 0, label, stamp, 0, words moved
  *                of ExtractMin  key, value, label, stamp, 0, words moved
  *                of Delete      0, 0, 0, 0, found, words moved        found: 1, or 0 where no live event has label and stamp
- *     others     0, 0, 0, 0, 0, 0
+ *     others     0, 0, 0, 0, 0, 0, and so for every refusal
  * Words moved are those fetched plus those stored: 16h(Z+1) + 8h - 8 for Insert, 4h(2Z+3) for the others.
  *
  * POINTERS. A slice is a pointer and a count of 64-bit words. No pointer may be null, not even with a count of 0. All must be
  * aligned for uint64_t. What is written must not overlap anything else that is handed to the same call; the proofs take
  * that as given, and nothing checks it.
+ *
+ * THE STACK. A call keeps its scratches in locals. No proof bounds a stack, and too small a one ends the program.
  *
  * ONE REQUEST, from the card to the rack and back:
  *     begin on the card       -> the bucket list, with the two counts in the answer
@@ -42,7 +45,8 @@ extern "C" {
  *     4, 5     t, how many requests are finished; c, how many events live
  *     6        kind of the waiting request: 0 none, 1 Insert, 2 ExtractMin, 3 Delete; above 3 the card is bad (13)
  *     7..11    its fields. Insert: key, value, label, first leaf, second leaf. Delete: label, stamp, 0, 0, 0. Else 0.
- *              What a kind does not use is ignored coming in and 0 after a call that is not refused.
+ *              What a kind does not use is ignored coming in and 0 after a call that writes the card: each that is not
+ *              refused, but for FindMin.
  *     12..15   the root's least record
  *     16..271  the root's 64 places, four words each
  * A record is key, value, label, stamp. The dummy, which marks an empty place, is 2^64 - 1, 0, 0, 0. */
@@ -90,8 +94,8 @@ uint64_t nwidarap_extract(uint64_t card[NWIDARAP_CARD_WORDS], uint64_t answer[NW
 uint64_t nwidarap_delete(uint64_t card[NWIDARAP_CARD_WORDS], uint64_t answer[NWIDARAP_ANSWER_WORDS], uint64_t label,
                          uint64_t stamp, uint64_t *list, size_t list_words);
 
-/* FindMin: the least record at once, with nothing to fetch; no finished request. 13, 2, 8. */
-uint64_t nwidarap_find_min(uint64_t card[NWIDARAP_CARD_WORDS], uint64_t answer[NWIDARAP_ANSWER_WORDS]);
+/* FindMin: the least record at once, with nothing to fetch; no finished request. The card is read and not written. 13, 2, 8. */
+uint64_t nwidarap_find_min(const uint64_t card[NWIDARAP_CARD_WORDS], uint64_t answer[NWIDARAP_ANSWER_WORDS]);
 
 /* Withdraw: drops the waiting request, and changes nothing else. 13, 3. */
 uint64_t nwidarap_withdraw(uint64_t card[NWIDARAP_CARD_WORDS], uint64_t answer[NWIDARAP_ANSWER_WORDS]);

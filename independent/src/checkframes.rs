@@ -67,7 +67,7 @@ fn keeps_rest(frame: &Frame, reply: &Reply) -> bool {
     let list = (2..=4).contains(&frame.op) || reply.list == frame.list;
     let words = frame.op == 7 || frame.op == 9 || reply.words == frame.words;
     let tree = frame.op == 8 || frame.op == 10 || reply.tree == frame.tree;
-    let card = frame.op < 8 || reply.card == frame.card;
+    let card = (frame.op < 8 && frame.op != 5) || reply.card == frame.card;
     list && words && tree && card
 }
 

@@ -73,10 +73,9 @@ fn call(frame: &Frame, reply: &mut Reply) -> Result<(), Refusal> {
             },
         ),
         5 => {
+            // "It leaves the card unchanged": its words go out as they came in.
             let card = card_from_words(&frame.card)?;
             reply.answer = answer_words(&find_min(&card)?);
-            // The same card goes out; the fields that a kind does not use go out as 0.
-            reply.card = words_from_card(&card);
             Ok(())
         }
         6 => {

@@ -1,4 +1,5 @@
-// The lines `size` and `min`: document 01, "`size h Z R T` starts afresh". For crates above. Stands on `card`, `rack` and `steps`.
+// The lines `size` and `min`: document 01, "`size h Z R T` starts afresh". For crates above. Stands on `path`, `card`, `rack`,
+// `lines` and `steps`.
 ghost use mathlib.Core.Path.{_≡_};
 ghost use Rattle.lines.specs.declared.Line.{Line};
 ghost use Rattle.steps.specs.Step.{Steps, minOf};

@@ -1,5 +1,5 @@
 // The lines that ask for a request: document 01, "one other than `size` before any accepted `size` .. prints `?`". For crates above. Stands on
-// `rounds` and `steps`.
+// `record`, `lines`, `rounds` and `steps`.
 ghost use Rattle.lines.specs.declared.Line.{Line};
 ghost use Rattle.steps.specs.Step.{Steps};
 use record::Leaf;

@@ -1,91 +1,62 @@
 -- What a begin that is not refused tells: a good card, no request that waits, a request within its rules, room for its
 -- list. Assumes nothing.
-use Prim.Native.Nat.{ℕ, _+_, _/_, _≤_, _<_}
-use mathlib.Core.Bool.{true, false, cond}
+use Prim.Native.Nat.{ℕ, _/_, _≤_, _<_}
+use mathlib.Core.Bool.{true, false}
 use mathlib.Core.List.{List, []}
 use mathlib.Core.Logic.{inl, inr}
 use mathlib.Mathlib.Data.Bool.Basic.{dichotomy, or-eq-false-eq-eq-false-and-eq-false as neither}
-use mathlib.Core.Path.{_≡_, refl, sym, ap, subst, _∙_}
+use mathlib.Core.Path.{_≡_, refl, sym, _∙_}
 use native.Mathlib.Omega.{arith}
-use lib.Dec.{ltb, eqb}
+use lib.Dec.{ltb}
 use lib.ListN.{length}
-use borrow.Author.Tests.{eqb-false, eq-eqb, ne-eqb, leb-false, ltb-false, lt-ltb, le-ltb, not-false}
+use borrow.Author.Tests.{eqb-false, ne-eqb, leb-false, ltb-false, le-ltb, not-false}
 use Rattle.record.specs.declared.Leaf.{Leaf}
 use Rattle.record.specs.declared.Stamp.{Stamp}
 use Rattle.record.proofs.StandingLaws.{proper-true}
-use Rattle.path.specs.declared.sizes.Sizes.{Sizes}
 use Rattle.record.specs.Standing.{dummyKey, known, isDummy, isProper, mayStand}
 use Rattle.lists.specs.declared.Listed.{Listed as Counts}
 use Rattle.lists.specs.BucketList.{numbers, counts, Names}
 use Rattle.path.proofs.SizesLaws.{in-range}
-use Rattle.lists.proofs.ListLaws.{length-numbers, pair-counts, path-counts}
 use Rattle.refusal.specs.Refusal.{firstGiven}
-use Rattle.refusal.proofs.RefusalLaws.{none-given, Numbered, none, next, first-append, append-none}
+use Rattle.refusal.proofs.RefusalLaws.{none-given, append-none, left-before, left-done}
 use Rattle.root.specs.Root.{rootFull}
 use Rattle.card.specs.declared.Card.{Card}
 use Rattle.request.specs.declared.Waiting.{Waiting}
 use Rattle.request.specs.declared.Waiting.the-variants.{Nothing, Insert, Extract, Delete}
+use Rattle.request.proofs.RequestLaws.{request-numbered}
+use Rattle.listing.specs.Listing.{listFor, countsFor, placesFor, leavesWithin, Listable}
+use Rattle.listing.proofs.ListingLaws.{counts-for}
+use Rattle.checks.specs.Checks.{badWith, busyRows, beginChecks}
+use Rattle.checks.proofs.CheckLaws.{begin-fault, begin-room}
 use Rattle.request.specs.Tables.{badLabel, insertRows, extractRows, deleteRows, requestRows, waits}
 use Rattle.card.specs.Tables.{leavesIn, nextStamp, requestTable}
 use Rattle.card.specs.BadCard.{badCard}
 use Rattle.judge.specs.BadParts.{oddLeast}
 use Rattle.card.specs.Answers.{refused}
-use Rattle.request.specs.Tables.{countsFor}
-use Rattle.card.specs.Calls.{listFor, listOf, leavesWithin, Listable, beginTable, listed, begun, Begins}
+use Rattle.card.specs.Calls.{listOf, beginTable, begunWith, begun, Begins}
 use Rattle.card.proofs.AnswerLaws.{is-refused, is-done}
 use Rattle.card.proofs.GoodLaws.{Good, good}
 
--- every row of a request's table has a number
-pub request-numbered : (k : Card) (w : Waiting) → Numbered (requestTable k w)
-unfolding requestRows insertRows extractRows deleteRows
-request-numbered k Nothing = none
-request-numbered k (Insert key value label first second) =
-    next 4 (omega arith) (next 5 (omega arith) (next 6 (omega arith) (next 9 (omega arith) (next 10 (omega arith) none))))
-request-numbered k Extract = next 4 (omega arith) (next 8 (omega arith) none)
-request-numbered k (Delete label stamp) = next 4 (omega arith) (next 6 (omega arith) (next 7 (omega arith) none))
-
 -- the counts that the height tells are those of the list
-pub counts-for : (k : Card) (w : Waiting) → 1 ≤ k .sizes .h → counts (listOf k w) ≡ countsFor (k .sizes .h) w
-unfolding listOf countsFor
-counts-for k Nothing h = refl
-counts-for k (Insert key value label first second) h = pair-counts (k .sizes .h) first second h
-counts-for k Extract h = path-counts (k .sizes .h) (k .least .label)
-counts-for k (Delete label stamp) h = path-counts (k .sizes .h) label
-
-pub counts-few : (h : ℕ) (w : Waiting) → h ≤ 16 → (countsFor h w .whole ≤ 32) × (countsFor h w .least ≤ 32)
-unfolding countsFor
-counts-few h Nothing l = (omega arith, omega arith)
-counts-few h (Insert key value label first second) l = (omega arith, omega arith)
-counts-few h Extract l = (omega arith, omega arith)
-counts-few h (Delete label stamp) l = (omega arith, omega arith)
-
--- so the room is
-pub room-for : (k : Card) (w : Waiting) → 1 ≤ k .sizes .h
-    → length (numbers (listOf k w)) ≡ countsFor (k .sizes .h) w .whole + countsFor (k .sizes .h) w .least
-room-for k w h = length-numbers (listOf k w) ∙ ap (λ (n : Counts). n .whole + n .least) (counts-for k w h)
+pub counts-of : (k : Card) (w : Waiting) → 1 ≤ k .sizes .h → counts (listOf k w) ≡ countsFor (k .sizes .h) w
+unfolding listOf
+counts-of k w h = counts-for (k .sizes .h) (k .least .label) w h
 
 -- a begin on a good card on which none waits: the request's own refusal, or no room, or none
 module _ (k : Card) (w : Waiting) (room : ℕ) (fine : badCard k ≡ false) (idle : waits (k .waiting) ≡ false) where
-  rest-decides :
-      firstGiven (beginTable k w room)
-      ≡ cond (eqb (firstGiven (requestTable k w)) 0) (cond (ltb room (length (numbers (listOf k w)))) 11 0)
-      (firstGiven (requestTable k w))
-  unfolding beginTable firstGiven
-  rest-decides = rw (fine, idle) (first-append _ (request-numbered k w))
+  passes : 0 ≡ firstGiven (busyRows (badWith (k .sizes) (k .t) (k .c) (k .root) (k .least) (k .waiting)) (k .waiting))
+  unfolding badCard firstGiven
+  passes = rw (fine, idle)
 
   pub request-refused : (firstGiven (requestTable k w) ≡ 0 → ⊥)
       → firstGiven (beginTable k w room) ≡ firstGiven (requestTable k w)
-  request-refused h = rest-decides ∙ rw (ne-eqb (firstGiven (requestTable k w)) 0 h)
+  unfolding beginTable badCard listOf
+  request-refused h = sym (begin-fault (k .sizes) (k .t) (k .c) (k .root) (k .least) (k .waiting) w room 0 passes refl _ refl h)
 
-  module _ (unrefused : firstGiven (requestTable k w) ≡ 0) where
-    height : 1 ≤ k .sizes .h
-    height = in-range (k .sizes) (good k fine .sizes) .tree .height .0
-
-    pub room-short : room < countsFor (k .sizes .h) w .whole + countsFor (k .sizes .h) w .least → firstGiven (beginTable k w room) ≡ 11
-    room-short h = rest-decides ∙ rw (unrefused, room-for k w height, lt-ltb _ _ h)
-
-    pub room-enough : countsFor (k .sizes .h) w .whole + countsFor (k .sizes .h) w .least ≤ room → firstGiven (beginTable k w room) ≡ 0
-    room-enough h = rest-decides ∙ rw (unrefused, room-for k w height, le-ltb _ _ h)
+  pub room-enough : firstGiven (requestTable k w) ≡ 0 → placesFor (k .sizes .h) w ≤ room → firstGiven (beginTable k w room) ≡ 0
+  unfolding beginTable badCard listOf
+  room-enough e l =
+      begin-room (k .sizes) (k .t) (k .c) (k .root) (k .least) (k .waiting) w room 0 passes refl _ refl e ∙ rw (le-ltb _ _ l)
 
 -- a begin that is not refused
 pub record Accepted (k : Card) (w : Waiting) (room : ℕ) : Type 0 where
@@ -99,7 +70,7 @@ unfolding beginTable
 accepted k w room e =
     let a = none-given 13 (badCard k) _ (omega arith) e in
     let b = none-given 2 (waits (k .waiting)) _ (omega arith) (a .1) in
-    let c = append-none _ (request-numbered k w) (b .1) in
+    let c = append-none _ (request-numbered (k .sizes) (k .t) (k .c) (k .root) w) (b .1) in
     let d = none-given 11 (ltb room (length (numbers (listOf k w)))) [] (omega arith) (c .1) in
     record { card = good k (a .0); idle = b .0; request = c .0; place = ltb-false _ _ (d .0) }
 
@@ -166,16 +137,16 @@ pub least-proper : (k : Card) → Good k → (k .c ≡ 0 → ⊥) → isProper (
 unfolding oddLeast mayStand
 least-proper k g h = elim (dichotomy (isDummy (k .least))) [
   | inl f ↦
-      let o = rw (f, ne-eqb (k .c) 0 h) at (g .odd) in
+      let o = rw (f, ne-eqb (k .c) 0 h) at (g .parts .odd) in
       not-false _ o
   | inr t ↦
-      let o = rw t at (g .odd) in
+      let o = rw t at (g .parts .odd) in
       absurd (h (omega (arith, ltb-false 0 (k .c) (neither _ _ .0 o .0))))
 ]
 
 -- a list that may be laid
 leaves-within : (k : Card) (w : Waiting) → Good k → firstGiven (requestTable k w) ≡ 0 → leavesWithin (leavesIn k) (k .least .label) w
-leaves-within k Nothing g e = refl
+leaves-within k Nothing g e = tt
 leaves-within k (Insert key value label first second) g e =
     let d = insertable k key value label first second e in
     (omega (arith, d .first), d .second .1)
@@ -186,33 +157,33 @@ pub listable : (k : Card) (w : Waiting) (room : ℕ) → Accepted k w room → L
 unfolding listOf
 listable k w room b =
     record {
-      height = in-range (k .sizes) (b .card .sizes) .tree .height;
+      height = in-range (k .sizes) (b .card .parts .sizes) .tree .height;
       leaves = leaves-within k w (b .card) (b .request);
       place = b .place;
     }
 
--- told of the request that is begun
-module _ (s : Sizes) (least : Leaf) (w v : Waiting) (e : w ≡ v) where
-  pub listable-for : (room : ℕ) → Listable s least w room → Listable s least v room
-  listable-for room p = subst (λ (x : Waiting). Listable s least x room) e p
+-- ---- what a begin answers, told by the number that the checks of the parts gave
+module _ (k : Card) (w : Waiting) (before : List ℕ) (number : ℕ)
+    (given : number ≡ firstGiven (beginChecks (k .sizes) (k .t) (k .c) (k .root) (k .least) (k .waiting) w (length before))) where
+  why : number ≡ firstGiven (beginTable k w (length before))
+  unfolding beginTable badCard listOf
+  why = given
 
-  pub names-for : (before after : List ℕ) (n : Counts) → Names (listFor (s .h) least v) before after n
-      → Names (listFor (s .h) least w) before after n
-  names-for before after n p = subst (λ (x : Waiting). Names (listFor (s .h) least x) before after n) (sym e) p
+  pub may-list : number ≡ 0 → Listable (k .sizes) (k .least .label) w (length before)
+  may-list z = listable k w (length before) (accepted k w (length before) (sym why ∙ z))
 
--- ---- what a begin answers
-module _ (k : Card) (w : Waiting) (before : List ℕ) (number : ℕ) (why : number ≡ firstGiven (beginTable k w (length before))) where
   pub begin-refused : (number ≡ 0 → ⊥) → Begins k w before before (refused k number)
   begin-refused h =
       record {
         call = rw (← why) (is-refused k number (begun k w) h);
-        places = rw (← why, ne-eqb number 0 h);
+        places = rw (← why) (sym (left-before number _ before h));
       }
 
-  pub begin-done : (after : List ℕ) (n : Counts) → number ≡ 0 → Names (listOf k w) before after n
-      → Begins k w before after (listed k w n)
+  pub begin-done : (after : List ℕ) (n : Counts) → number ≡ 0 → Names (listFor (k .sizes .h) (k .least .label) w) before after n
+      → Begins k w before after (begunWith k w n)
+  unfolding listOf
   begin-done after n h l =
       record {
         call = rw (← why, l .counted) (is-done k number (begun k w) h refl);
-        places = rw (← why, eq-eqb number 0 h) (l .places);
+        places = rw (← why) (l .places ∙ sym (left-done number _ before h));
       }

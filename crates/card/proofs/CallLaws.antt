@@ -56,34 +56,24 @@ fresh-good s h =
     let slots = take-dummies (s .r) 64 in
     let past = drop-dummies (s .r) 64 in
     record {
-      sizes = h;
-      spent = omega arith;
-      live = (omega arith, omega arith);
-      slots = rw (slots .1) (every-dummies (mayStand (2 ^ s .h) (record { 0 = 0 })) (dummy-stands (2 ^ s .h) (record { 0 = 0 })) (slots .0));
-      past = rw (past .1) (every-dummies isDummy is-dummy (past .0));
-      stamps = rw (slots .1) (stamps-dummies (slots .0));
-      few = rw (slots .1, reals-dummies) (omega arith);
-      odd = rw (is-dummy, dummy-stands);
-      first = rw (slots .1) (every-dummies _ (rw is-dummy) (slots .0));
+      parts = record {
+        sizes = h;
+        spent = omega arith;
+        live = (omega arith, omega arith);
+        slots = rw (slots .1) (every-dummies (mayStand (2 ^ s .h) (record { 0 = 0 })) (dummy-stands (2 ^ s .h) (record { 0 = 0 })) (slots .0));
+        past = rw (past .1) (every-dummies isDummy is-dummy (past .0));
+        stamps = rw (slots .1) (stamps-dummies (slots .0));
+        few = rw (slots .1, reals-dummies) (omega arith);
+        odd = rw (is-dummy, dummy-stands);
+        first = rw (slots .1) (every-dummies _ (rw is-dummy) (slots .0));
+      };
       waiting = refl;
     }
 
 -- ---- a begin that is not refused, and a withdraw, leave a good card good
 module _ (k : Card) (g : Good k) where
   pub waiting-good : (w : Waiting) → firstGiven (requestRows (k .sizes) (k .t) (k .c) (k .root) w) ≡ 0 → Good (withWaiting k w)
-  waiting-good w e =
-      record {
-        sizes = g .sizes;
-        spent = g .spent;
-        live = g .live;
-        slots = g .slots;
-        past = g .past;
-        stamps = g .stamps;
-        few = g .few;
-        odd = g .odd;
-        first = g .first;
-        waiting = e;
-      }
+  waiting-good w e = record { parts = g .parts; waiting = e }
 
   pub withdrawn-good : Good (withWaiting k Nothing)
   unfolding requestRows firstGiven

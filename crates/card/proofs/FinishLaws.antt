@@ -10,7 +10,7 @@ use Rattle.record.specs.declared.Leaf.{Leaf}
 use Rattle.record.specs.declared.Stamp.{Stamp}
 use Rattle.record.specs.Standing.{isProper}
 use Rattle.record.proofs.StandingLaws.{proper-true}
-use Rattle.lists.specs.BucketList.{counts, fetchedFor}
+use Rattle.lists.specs.BucketList.{fetchedFor}
 use Rattle.lists.specs.declared.Listed.{Listed as Counts}
 use Rattle.path.proofs.SizesLaws.{in-range}
 use Rattle.settle.specs.Room.{Parts, RemovalRoom, InsertionRoom}
@@ -23,29 +23,39 @@ use Rattle.request.specs.declared.Waiting.{Waiting}
 use Rattle.request.specs.declared.Waiting.the-variants.{Nothing, Insert, Extract, Delete}
 use Rattle.request.specs.Tables.{waits}
 use Rattle.card.specs.Tables.{leavesIn, nextStamp, requestTable}
-use Rattle.request.specs.Tables.{countsFor}
+use Rattle.listing.specs.Listing.{countsFor, wordsAsked}
+use Rattle.listing.proofs.ListingLaws.{counts-for}
+use Rattle.checks.specs.Checks.{entryChecks}
 use Rattle.card.specs.Calls.{listOf}
 use Rattle.card.specs.Finish.{wordsNeeded, entryTable}
 use Rattle.card.proofs.GoodLaws.{Good, good}
-use Rattle.card.proofs.BeginLaws.{counts-for, insertable, extractable, deletable, least-proper}
+use Rattle.card.proofs.BeginLaws.{insertable, extractable, deletable, least-proper}
 
 module _ (k : Card) (room : ℕ) where
   pub entry-numbered : Numbered (entryTable k room)
   unfolding entryTable
   entry-numbered = next 13 (omega arith) (next 3 (omega arith) (next 11 (omega arith) none))
 
+  -- a good card on which none waits
+  pub none-waits : badCard k ≡ false → waits (k .waiting) ≡ false → firstGiven (entryTable k room) ≡ 3
+  unfolding entryTable firstGiven
+  none-waits fine idle = rw (fine, idle)
+
   -- a good card on which a request waits: only the room decides
-  module _ (fine : badCard k ≡ false) (busy : waits (k .waiting) ≡ true) (high : 1 ≤ k .sizes .h) where
-    needed : wordsNeeded k ≡ fetchedFor (k .sizes .z) (countsFor (k .sizes .h) (k .waiting))
-    needed = ap (fetchedFor (k .sizes .z)) (counts-for k (k .waiting) high)
-
-    pub words-short : room < fetchedFor (k .sizes .z) (countsFor (k .sizes .h) (k .waiting)) → firstGiven (entryTable k room) ≡ 11
+  module _ (fine : badCard k ≡ false) (busy : waits (k .waiting) ≡ true) where
+    pub words-short : room < wordsNeeded k → firstGiven (entryTable k room) ≡ 11
     unfolding entryTable firstGiven
-    words-short l = rw (fine, busy, needed, lt-ltb _ _ l)
+    words-short l = rw (fine, busy, lt-ltb _ _ l)
 
-    pub words-enough : fetchedFor (k .sizes .z) (countsFor (k .sizes .h) (k .waiting)) ≤ room → firstGiven (entryTable k room) ≡ 0
+    pub words-enough : wordsNeeded k ≤ room → firstGiven (entryTable k room) ≡ 0
     unfolding entryTable firstGiven
-    words-enough l = rw (fine, busy, needed, le-ltb _ _ l)
+    words-enough l = rw (fine, busy, le-ltb _ _ l)
+
+  -- what the checks of the parts give is what the table gives
+  pub entry-given : (n : ℕ) → n ≡ firstGiven (entryChecks (k .sizes) (k .t) (k .c) (k .root) (k .least) (k .waiting) room)
+      → n ≡ firstGiven (entryTable k room)
+  unfolding entryTable badCard listOf
+  entry-given n e = e
 
   -- none of the three is given
   pub record Entered : Type 0 where
@@ -73,24 +83,25 @@ pub record Ready (k : Card) (w : Waiting) (room : ℕ) : Type 0 where
   pub words : fetchedFor (k .sizes .z) (countsFor (k .sizes .h) w) ≤ room
 
 pub ready : (k : Card) (w : Waiting) (room : ℕ) → k .waiting ≡ w → firstGiven (entryTable k room) ≡ 0 → Ready k w room
+unfolding listOf
 ready k w room e f =
     let n = entered k room f in
-    let i = in-range (k .sizes) (n .card .sizes) in
-    let a : fetchedFor (k .sizes .z) (counts (listOf k w)) ≤ room =
-    subst (λ (v : Waiting). fetchedFor (k .sizes .z) (counts (listOf k v)) ≤ room) e (n .words) in
+    let i = in-range (k .sizes) (n .card .parts .sizes) in
+    let a : wordsAsked (k .sizes) (k .least .label) w ≤ room =
+    subst (λ (v : Waiting). wordsAsked (k .sizes) (k .least .label) v ≤ room) e (n .words) in
     record {
       card = n .card;
       request = rw e at (n .card .waiting);
-      words = subst (λ (m : Counts). fetchedFor (k .sizes .z) m ≤ room) (counts-for k w (i .tree .height .0)) a;
+      words = subst (λ (m : Counts). fetchedFor (k .sizes .z) m ≤ room) (counts-for (k .sizes .h) (k .least .label) w (i .tree .height .0)) a;
     }
 
 -- what a finish asks of the card's parts
 parts-fit : (k : Card) → Good k → Parts (k .sizes) (k .t) (k .c)
 parts-fit k g =
-    let i = in-range (k .sizes) (g .sizes) in
+    let i = in-range (k .sizes) (g .parts .sizes) in
     record {
       sizes = record { height = i .tree .height; width = i .tree .slots .1; roots = i .roots .1 };
-      counts = (omega (arith, g .spent, i .most), omega (arith, g .live, i .most));
+      counts = (omega (arith, g .parts .spent, i .most), omega (arith, g .parts .live, i .most));
     }
 
 pub clock-fits : (k : Card) → Good k → k .t ≤ 4294967295
@@ -146,3 +157,14 @@ module _ (k : Card) (ws : List ℕ) where
 
   pub request-ready : firstGiven (entryTable k (length ws)) ≡ 0 → Finishable (k .sizes) (k .t) (k .c) (k .least) (k .waiting) ws
   request-ready f = parts-ready (k .waiting) refl f
+
+-- told by the number that the checks gave
+module _ (k : Card) (ws : List ℕ) (n : ℕ) (e : n ≡ firstGiven (entryChecks (k .sizes) (k .t) (k .c) (k .root) (k .least) (k .waiting) (length ws))) (z : n ≡ 0) where
+  pub checked-entry : firstGiven (entryTable k (length ws)) ≡ 0
+  checked-entry = sym (entry-given k (length ws) n e) ∙ z
+
+  pub checked-ready : Finishable (k .sizes) (k .t) (k .c) (k .least) (k .waiting) ws
+  checked-ready = request-ready k ws checked-entry
+
+  pub checked-clock : k .t ≤ 4294967295
+  checked-clock = clock-fits k (entered k (length ws) checked-entry .card)

@@ -6,3 +6,4 @@ pub mod CallLaws
 pub mod FinishLaws
 mod CheckLaws
 pub mod FinishedLaws
+pub mod LastingLaws

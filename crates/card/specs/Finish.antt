@@ -1,36 +1,25 @@
 -- Finish: document 01, "A request, step by step". What the work leaves and when it is Damaged stand in
 -- finishes/specs/Finishes.antt; here they are taken of the card. Assumes nothing.
 use Prim.Native.Nat.{ℕ, suc, _+_}
-use mathlib.Core.Bool.{Bool, cond}
+use mathlib.Core.Bool.{Bool}
 use mathlib.Core.List.{List, [], _∷_, _++_}
 use mathlib.Core.Path.{_≡_}
-use lib.Dec.{ltb, eqb}
 use lib.ListN.{length}
-use Rattle.record.specs.declared.Record.{Record}
 use Rattle.lists.specs.BucketList.{counts, fetchedFor, wordsMoved}
-use Rattle.refusal.specs.Refusal.{Refusal, row, firstGiven}
+use Rattle.refusal.specs.Refusal.{Refusal, row, firstGiven, afterwards}
 use Rattle.settle.specs.Left.{Left, wordsLeft}
 use Rattle.settle.specs.declared.Settled.{Settled}
 use Rattle.finishes.specs.Finishes.{leftFor, damagedFor}
 use Rattle.card.specs.declared.Card.{Card}
 use Rattle.request.specs.declared.Waiting.{Waiting}
-use Rattle.request.specs.declared.Waiting.the-variants.{Nothing, Insert, Extract, Delete}
-use Rattle.card.specs.declared.Answer.{Answer}
-use Rattle.card.specs.declared.Answer.the-variants.{Inserted, Extracted, Deleted, Refused}
+use Rattle.request.specs.declared.Waiting.the-variants.{Nothing}
+use Rattle.answers.specs.Answers.{answerTo}
 use Rattle.card.specs.declared.Done.{Done}
 use Rattle.card.specs.BadCard.{badCard}
-use Rattle.checks.specs.Checks.{idleRows}
+use Rattle.checks.specs.Checks.{entryRows}
 use Rattle.card.specs.Tables.{cardOf}
 use Rattle.card.specs.Answers.{Answered}
 use Rattle.card.specs.Calls.{listOf}
-
--- what a finish answers, with the words moved: "It answers label and stamp." of Insert; ExtractMin the record that was the
--- root's least; Delete whether it was there. Where none waits it is never asked for: 3 is given before (`finishTable`).
-abbrev pub answerTo : Waiting → ℕ → Record → Bool → ℕ → Answer
-answerTo Nothing t least found moved = Refused 3
-answerTo (Insert key value label first second) t least found moved = Inserted label (record { 0 = t }) moved
-answerTo Extract t least found moved = Extracted least moved
-answerTo (Delete label stamp) t least found moved = Deleted found moved
 
 module _ (k : Card) where
   -- what is left, and when it is Damaged: those of the card's parts, finishes/specs/Finishes.antt
@@ -44,9 +33,9 @@ module _ (k : Card) where
   abbrev pub wordsNeeded : ℕ
   wordsNeeded = fetchedFor (k .sizes .z) (counts (listOf k (k .waiting)))
 
-  -- "finish checks 13, 3, 11, 12 only": the first three before anything is looked at
+  -- before anything fetched is looked at: the order of the rows stands in checks/specs/Checks.antt
   unfoldable pub entryTable : ℕ → List Refusal
-  entryTable room = idleRows (badCard k) (k .waiting) ++ (row 11 (ltb room wordsNeeded) ∷ [])
+  entryTable room = entryRows (badCard k) (k .waiting) wordsNeeded room
 
   abbrev pub finishTable : List ℕ → List Refusal
   finishTable ws = entryTable (length ws) ++ (row 12 (damagedBy (k .waiting) ws) ∷ [])
@@ -78,4 +67,4 @@ module _ (k : Card) where
 pub record Finishes (k : Card) (before after : List ℕ) (answer : Done) : Type 0 where
   pub call : Answered k (firstGiven (finishTable k before)) (finished k before) answer
   pub words :
-      after ≡ cond (eqb (firstGiven (finishTable k before)) 0) (wordsLeft (leftBy k (k .waiting) before) before) before
+      after ≡ afterwards (firstGiven (finishTable k before)) (wordsLeft (leftBy k (k .waiting) before) before) before

@@ -4,3 +4,4 @@ pub mod Tables
 pub mod Answers
 pub mod Calls
 pub mod Finish
+pub mod Lasting

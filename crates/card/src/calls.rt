@@ -1,16 +1,13 @@
 // The calls on a card but finish: document 01, "A request, step by step". Each hands back the new card and the answer; a
 // refused call hands back the card as it came, and its number.
 ghost use mathlib.Core.Path.{_≡_};
-ghost use lib.ListN.{length};
-ghost use Rattle.lists.specs.BucketList.{Names};
 ghost use Rattle.refusal.specs.Refusal.{firstGiven};
 ghost use Rattle.path.specs.Sizes.{sizesOf};
 ghost use Rattle.card.specs.Answers.{refused, Answered};
-ghost use Rattle.card.specs.Calls.{freshCard, zeroCard, startTable, started, listFor, Listable, listed, Begins, minTable, foundMin, withdrawTable, withdrawn};
-use crate::Answer;
+ghost use Rattle.card.specs.Calls.{freshCard, zeroCard, startTable, started, begunWith, Begins, minTable, foundMin, withdrawTable, withdrawn};
 use crate::Card;
 use crate::Done;
-use crate::why::why_begin;
+use answers::Answer;
 use lists::Listed;
 use path::Sizes;
 use record::Leaf;
@@ -19,25 +16,6 @@ use record::Stamp;
 use refusal::BAD_SIZE;
 use refusal::EMPTY;
 use request::Waiting;
-
-// The bucket list of a request, laid in the lent places; `least` is the label of the root's least record.
-fn list_of(sizes: Sizes, least: Leaf, request: Waiting, list: &mut [u64]) -> Listed
-    requires { ⌜ Listable sizes least request (length (now list)) ⌝ }
-    ensures { λ n. ⌜ Names (listFor (sizes .h) least request) (now (list .entry)) (now (list .exit)) n ⌝ }
-{
-    match request {
-        Waiting::Nothing => Listed { whole: 0, least: 0 },
-        Waiting::Insert {
-            key: _,
-            value: _,
-            label: _,
-            first,
-            second,
-        } => lists::list_pair(sizes, first, second, list),
-        Waiting::Extract => lists::list_path(sizes, least, list),
-        Waiting::Delete { label, stamp: _ } => lists::list_path(sizes, label, list),
-    }
-}
 
 impl Card {
     // A card on which nothing is finished, live or waiting.
@@ -121,7 +99,7 @@ impl Card {
 
     // The request waits, and its list has so many numbers.
     fn begun(self, request: Waiting, counts: Listed) -> Done
-        ensures { λ d. ⌜ d ≡ listed self request counts ⌝ }
+        ensures { λ d. ⌜ d ≡ begunWith self request counts ⌝ }
     {
         let answer = Answer::Listed {
             whole: counts.whole,
@@ -141,11 +119,23 @@ impl Card {
     fn begin(self, request: Waiting, list: &mut [u64]) -> Done
         ensures { λ d. ⌜ Begins self request (now (list .entry)) (now (list .exit)) d ⌝ }
     {
-        let number = why_begin(self, request, list.len());
+        let root = self.root;
+        let least = self.least;
+        let waiting = self.waiting;
+        let number = checks::why_begin(
+            root,
+            self.sizes,
+            self.t,
+            self.c,
+            least,
+            waiting,
+            request,
+            list.len(),
+        );
         if number != 0 {
             return self.refuse(number);
         }
-        let counts = list_of(self.sizes, self.least.label, request, list);
+        let counts = listing::list_for(self.sizes, least.label, request, list);
         self.begun(request, counts)
     }
 
@@ -201,7 +191,10 @@ impl Card {
         if self.c == 0 {
             return self.refuse(EMPTY);
         }
-        let answer = Answer::Least(least);
+        let answer = Answer::Least {
+            event: least,
+            words: 0,
+        };
         Done {
             card: self,
             answer: answer,

@@ -2,48 +2,12 @@
 // and leaves every word; the request still waits.
 ghost use mathlib.Core.Path.{_≡_};
 ghost use Prim.Native.Nat.{_≤_};
-ghost use Rattle.card.specs.Finish.{answerTo, doneWith, Finishes};
-use crate::Answer;
+ghost use Rattle.card.specs.Finish.{doneWith, Finishes};
 use crate::Card;
 use crate::Done;
-use crate::why::why_finish;
-use record::Record;
-use record::Stamp;
 use refusal::DAMAGED;
-use refusal::IDLE;
 use request::Waiting;
 use settle::Settled;
-
-// What a finish answers to the request that waited, where `least` was the root's least record.
-fn answer_to(waiting: Waiting, t: u64, least: Record, found: bool, moved: u64) -> Answer
-    ensures { λ a. ⌜ a ≡ answerTo waiting t least found moved ⌝ }
-{
-    match waiting {
-        Waiting::Nothing => Answer::Refused(IDLE),
-        Waiting::Insert {
-            key: _,
-            value: _,
-            label,
-            first: _,
-            second: _,
-        } => {
-            let stamp = Stamp(t);
-            Answer::Inserted {
-                label: label,
-                stamp: stamp,
-                words: moved,
-            }
-        }
-        Waiting::Extract => Answer::Extracted {
-            event: least,
-            words: moved,
-        },
-        Waiting::Delete { label: _, stamp: _ } => Answer::Deleted {
-            found: found,
-            words: moved,
-        },
-    }
-}
 
 impl Card {
     // The card that comes out, with the answer: one request more is finished, and none waits.
@@ -53,7 +17,7 @@ impl Card {
     {
         let waited = self.waiting;
         let old = self.least;
-        let answer = answer_to(waited, self.t, old, out.found, out.moved);
+        let answer = answers::answer_to(waited, self.t, old, out.found, out.moved);
         let waiting = Waiting::Nothing;
         let root = out.root;
         let least = out.least;
@@ -74,13 +38,21 @@ impl Card {
     pub fn finish(self, words: &mut [u64]) -> Done
         ensures { λ d. ⌜ Finishes self (now (words .entry)) (now (words .exit)) d ⌝ }
     {
-        let number = why_finish(self, words.len());
-        if number != 0 {
-            return self.refuse(number);
-        }
         let root = self.root;
         let least = self.least;
         let waiting = self.waiting;
+        let number = checks::why_finish(
+            root,
+            self.sizes,
+            self.t,
+            self.c,
+            least,
+            waiting,
+            words.len(),
+        );
+        if number != 0 {
+            return self.refuse(number);
+        }
         let out = finishes::settle_request(words, root, self.sizes, self.t, self.c, least, waiting);
         if out.damaged {
             return self.refuse(DAMAGED);

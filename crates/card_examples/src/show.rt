@@ -1,6 +1,6 @@
 // Answers, lists and cards as numbers of a line.
 use crate::line;
-use card::Answer;
+use answers::Answer;
 use card::Card;
 use card::Done;
 use path::Sizes;
@@ -24,7 +24,10 @@ pub(crate) fn answer(done: Done) {
             line::number(whole as u64);
             line::number(least as u64);
         }
-        Answer::Least(least) => {
+        Answer::Least {
+            event: least,
+            words: _,
+        } => {
             line::number(0);
             record(least);
             line::number(0);

@@ -18,7 +18,7 @@ use Rattle.record.proofs.WordsLaws.{records-count, records-written}
 use Rattle.way.specs.Evict.{seek}
 use Rattle.gather.specs.Laid.{laidOver}
 use Rattle.clearing.specs.Removal.{found, removed, Cleared}
-use Rattle.gather.proofs.LaidLaws.{laid-all, laid-length, laid-records}
+use Rattle.gather.proofs.LaidLaws.{laid-all, laid-records}
 
 -- words behind a record are as they were
 drop-written : (ws : List ℕ) (p n : ℕ) (r : Record) → 4 * p + 4 ≤ n → drop n (written ws p r) ≡ drop n ws
@@ -62,9 +62,6 @@ module _ (f : Record → Bool) (before after : List ℕ) (answer : Bool) (c : Cl
   removed-room : 4 * (0 + length (removed f (records before))) ≤ length before
   unfolding removed
   removed-room = rw length-set (omega (arith, records-count before))
-
-  pub cleared-length : length after ≡ length before
-  cleared-length = ap length (c .words) ∙ laid-length before 0 _ removed-room
 
   pub cleared-records : records after ≡ removed f (records before)
   unfolding removed

@@ -1,4 +1,4 @@
--- Fetched words are the listed buckets' words, in list order, and the words past them stay. Assumes nothing.
+-- Fetched words are the listed buckets' words, in list order. Assumes nothing.
 use Prim.Native.Nat.{ℕ, zero, suc, _+_, _*_, _≤_, _<_}
 use mathlib.Core.List.{List, [], _∷_, _++_, flatMap, append-assoc, List·Memᴰ·head, List·Memᴰ·tail}
 use mathlib.Core.Path.{_≡_, refl, _∙_}
@@ -54,9 +54,3 @@ module _ (z : ℕ) (tree : List ℕ) (l : BucketList) (words : List ℕ) (wholes
     fetched-least i n =
         rw (append-assoc, ← drop-drop (i * recordWords), drop-at _ _ _ whole-length)
         (parts-at z recordWords tree (l .least) _ i (omega arith) leasts n)
-
-    -- "fetched words past these stay"
-    pub fetched-past :
-        drop (fetchedFor z (counts l)) (fetched z tree l words)
-        ≡ drop (fetchedFor z (counts l)) words
-    fetched-past = drop-at (fetchedWords z tree l) _ _ fetched-length ∙ rw fetched-length

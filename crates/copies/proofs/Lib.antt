@@ -1,5 +1,4 @@
 -- The laws of the copies that crates above cite.
-pub mod PartLaws
 pub mod LayoutLaws
 pub mod CoverLaws
 pub mod CopyLaws

@@ -13,7 +13,7 @@ use Rattle.record.specs.declared.Bucket.{Bucket}
 use Rattle.path.specs.Path.{bucket, number}
 use Rattle.path.specs.Layout.{bucketWords, bucketStart}
 use Rattle.copies.specs.Copy.{bucketPart, stored, Stands, AllStand}
-use Rattle.copies.proofs.PartLaws.{part-pasted, part-earlier, part-later}
+use Rattle.record.proofs.PartLaws.{part-pasted, part-earlier, part-later}
 
 -- no bucket named twice
 pub data Distinct : List Bucket → Type 0 where

@@ -13,8 +13,5 @@ abbrev pub contentsOf : List Record → Contents
 contentsOf [] = record { least = dummy; slots = [] }
 contentsOf (r ∷ rs) = record { least = r; slots = rs }
 
-abbrev pub recordsIn : Contents → List Record
-recordsIn c = c .least ∷ c .slots
-
 abbrev pub bucketAt : ℕ → List ℕ → Bucket → Contents
 bucketAt z tree b = contentsOf (records (bucketPart z tree b))

@@ -8,7 +8,7 @@ use mathlib.Core.Path.{_≡_, refl, sym, subst, _∙_}
 use mathlib.Mathlib.Data.Bool.Basic.{dichotomy}
 use native.Mathlib.Omega.{arith}
 use lib.Dec.{eqb}
-use lib.ListN.{length, getD, take}
+use lib.ListN.{length, take}
 use borrow.Author.Tests.{ltb-true, lt-ltb}
 use Rattle.record.specs.declared.Bucket.{Bucket}
 use Rattle.record.specs.declared.Leaf.{Leaf}
@@ -18,7 +18,7 @@ use Rattle.record.specs.Standing.{dummy, isDummy, isProper, mayStand}
 use Rattle.record.specs.Many.{every}
 use Rattle.record.specs.Order.{noLater, smallest}
 use Rattle.record.proofs.StandingLaws.{dummy-is}
-use Rattle.record.proofs.ManyLaws.{every-each}
+use Rattle.record.proofs.ManyLaws.{get-in, every-each}
 use Rattle.record.proofs.OrderLaws.{ordered, smallest-low, dummy-after-proper}
 use Rattle.path.specs.Sizes.{leavesOf}
 use Rattle.path.specs.Path.{number, pathBucket}
@@ -35,7 +35,6 @@ use Rattle.damage.specs.Damaged.{pathDamaged}
 use Rattle.sound.proofs.SoundLaws.{sound-cases, bucket-sound-at}
 use Rattle.truth.proofs.LevelLaws.{least-true-at}
 use Rattle.damage.proofs.DamagedLaws.{Undamaged, undamaged}
-use Rattle.damage.proofs.OnceLaws.{get-in}
 
 -- a bucket's own least record is among the two
 own-in : (b : Bucket) (own other : Record) → List·Memᴰ own (inOrder b own other)

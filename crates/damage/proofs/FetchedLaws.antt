@@ -1,6 +1,5 @@
 -- Damaged looks at levels 1 to h alone, so what the checks are lent gives the verdict on all fetched words. Assumes nothing.
-use Prim.Native.Nat.{ℕ, zero, suc, _+_, _*_, _-_, _≤_, _<_}
-use mathlib.Core.Bool.{Bool}
+use Prim.Native.Nat.{ℕ, suc, _+_, _*_, _-_, _≤_}
 use mathlib.Core.List.{List}
 use mathlib.Core.Logic.{inl, inr}
 use mathlib.Core.Path.{_≡_, refl}
@@ -12,8 +11,7 @@ use borrow.Author.Tests.{ltb-true}
 use Rattle.record.specs.declared.Leaf.{Leaf}
 use Rattle.record.specs.declared.Stamp.{Stamp}
 use Rattle.record.specs.declared.Record.{Record}
-use Rattle.record.specs.Many.{every}
-use Rattle.path.specs.Path.{upFrom}
+use Rattle.path.proofs.LevelLaws.{every-same}
 use Rattle.gather.specs.Laid.{laidOver}
 use Rattle.gather.specs.Shown.{siblingsShown}
 use Rattle.gather.proofs.ShownLaws.{bucketsIn, whole-of-part}
@@ -22,13 +20,6 @@ use Rattle.sound.specs.Sound.{pathSound, siblingsSound, allSound}
 use Rattle.truth.specs.Leasts.{kidsShown, leastsTrue, allTrue}
 use Rattle.sound.specs.Fetched.{Fetched, fetchedIn, fetchedFrom}
 use Rattle.damage.specs.Damaged.{pathDamaged, pairDamaged}
-
--- a test of some levels sees no others
-every-same : (f g : ℕ → Bool) (a n : ℕ) → ((d : ℕ) → a ≤ d → d < a + n → f d ≡ g d) → every f (upFrom a n) ≡ every g (upFrom a n)
-unfolding every upFrom
-every-same f g a zero same = refl
-every-same f g a (suc n) same =
-    rw (same a (omega arith) (omega arith), every-same f g (suc a) n (λ d l m. same d (omega arith) (omega arith)))
 
 -- one path at the levels that are looked at
 pub record Alike (h from : ℕ) (p q : Fetched) : Type 0 where

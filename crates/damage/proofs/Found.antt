@@ -18,6 +18,7 @@ use Rattle.record.specs.declared.Record.{Record}
 use Rattle.record.specs.Standing.{dummy, same, isDummy, isProper}
 use Rattle.record.specs.Order.{noLater, leastOf}
 use Rattle.record.proofs.StandingLaws.{same-true, true-same, is-dummy, proper-true, proper-not-dummy}
+use Rattle.record.proofs.ManyLaws.{get-in}
 use Rattle.record.proofs.OrderLaws.{smallest-in}
 use Rattle.path.specs.Sizes.{leavesOf}
 use Rattle.path.specs.Path.{number, pathBucket, siblingOf}
@@ -35,7 +36,7 @@ use Rattle.damage.specs.Damaged.{pathDamaged}
 use Rattle.sound.proofs.SoundLaws.{sound-cases, sibling-sound-at}
 use Rattle.truth.proofs.LevelLaws.{least-true-at}
 use Rattle.damage.proofs.DamagedLaws.{Undamaged, undamaged}
-use Rattle.damage.proofs.OnceLaws.{stamp-once, get-in}
+use Rattle.damage.proofs.OnceLaws.{stamp-once}
 
 -- what is among some is among all of them
 take-in : {x : Record} (n : ℕ) (l : List Record) → List·Memᴰ x (take n l) → List·Memᴰ x l

@@ -1,12 +1,9 @@
 -- Where no stamp stands twice, a record is known by its stamp. Assumes nothing.
-use Prim.Native.Nat.{ℕ, zero, suc, _<_}
-use mathlib.Core.Bool.{Bool, true, false, not, _&&_, _||_, true≢false}
-use mathlib.Core.List.{List, [], _∷_, List·Memᴰ, List·Memᴰ·head, List·Memᴰ·tail}
+use mathlib.Core.Bool.{false, not, _&&_, true≢false}
+use mathlib.Core.List.{List, _∷_, List·Memᴰ, List·Memᴰ·head, List·Memᴰ·tail}
 use mathlib.Core.Logic.{inl, inr}
-use mathlib.Core.Path.{_≡_, refl, sym, _∙_}
-use mathlib.Mathlib.Data.Bool.Basic.{dichotomy}
-use native.Mathlib.Omega.{arith}
-use lib.ListN.{length, getD}
+use mathlib.Core.Path.{_≡_, sym, _∙_}
+use mathlib.Mathlib.Data.Bool.Basic.{dichotomy, or-eq-false-eq-eq-false-and-eq-false as neither}
 use Rattle.record.specs.declared.Record.{Record}
 use Rattle.record.specs.Standing.{isDummy}
 use Rattle.record.specs.Many.{every, bears, stampTwice}
@@ -22,11 +19,7 @@ once-apart z zs {y} once real m other e = elim (dichotomy (every (λ x. not (bea
 
 once-later : (z : Record) (zs : List Record) → stampTwice (z ∷ zs) ≡ false → stampTwice zs ≡ false
 unfolding stampTwice
-once-later z zs once = either (not (isDummy z) && not (every (λ y. not (bears (z .stamp) y)) zs)) (stampTwice zs) once
-  where
-    either : (a b : Bool) → (a || b) ≡ false → b ≡ false
-    either false b e = e
-    either true b e = absurd (true≢false e)
+once-later z zs once = neither (not (isDummy z) && not (every (λ y. not (bears (z .stamp) y)) zs)) (stampTwice zs) .0 once .1
 
 pub stamp-once : {x y : Record} {w : List Record} → stampTwice w ≡ false → List·Memᴰ x w → List·Memᴰ y w → isDummy x ≡ false
     → isDummy y ≡ false → x .stamp .0 ≡ y .stamp .0 → x ≡ y
@@ -36,8 +29,3 @@ stamp-once once (List·Memᴰ·head {x = z} {xs = zs} e) (List·Memᴰ·tail n) 
 stamp-once once (List·Memᴰ·tail m) (List·Memᴰ·head {x = z} {xs = zs} f) rx ry s =
     absurd (once-apart z zs once (rw f at ry) m rx (rw f at s))
 stamp-once once (List·Memᴰ·tail {x = z} {xs = zs} m) (List·Memᴰ·tail n) rx ry s = stamp-once (once-later z zs once) m n rx ry s
-
-pub get-in : (l : List Record) (i : ℕ) (d : Record) → i < length l → List·Memᴰ (getD l i d) l
-get-in [] i d h = absurd (omega arith)
-get-in (x ∷ xs) zero d h = List·Memᴰ·head refl
-get-in (x ∷ xs) (suc i) d h = List·Memᴰ·tail (get-in xs i d (omega arith))

@@ -28,8 +28,8 @@ pub data Agree : World → World → List Call → List Call → Type 0 where
       → Agree (step u c .world) (step v d .world) cs ds → Agree u v (c ∷ cs) (d ∷ ds)
 
 -- of a request on each side that asks for the same list
-agree-round : {u v : World} {q p : Queue} {w x : Waiting} {asked : Asked w} {asked′ : Asked x} {places words places′ words′ : List ℕ}
-    {cs ds : List Call} → Round u q asked places words → Round v p asked′ places′ words′ → listOf (v .card) x ≡ listOf (u .card) w
+agree-round : {s : Sizes} {u v : World} {q p : Queue} {w x : Waiting} {asked : Asked w} {asked′ : Asked x} {places words places′ words′ : List ℕ}
+    {cs ds : List Call} → Round s u q asked places words → Round s v p asked′ places′ words′ → listOf (v .card) x ≡ listOf (u .card) w
     → well (doneBy v asked′ places′ words′ .answer) ≡ true
     → Agree (doneBy u asked places words .world) (doneBy v asked′ places′ words′ .world) cs ds
     → Agree u v (begin asked places ∷ finish words ∷ cs) (begin asked′ places′ ∷ finish words′ ∷ ds)
@@ -39,7 +39,7 @@ agree-round r t e well′ rest =
 -- ---- request by request
 module _ (s : Sizes) (f : ℕ → ℕ) (below : (stamp : ℕ) → f stamp < leavesOf (s .h)) where
   agree-met : {u v : World} {q p : Queue} {w x x′ : Waiting} {asked : Asked w} {asked′ : Asked x′} {places words places′ words′ : List ℕ}
-      {cs ds ds′ : List Call} → Round u q asked places words → Meets s f below u v q p x asked asked′ places words places′ words′ cs ds
+      {cs ds ds′ : List Call} → Round s u q asked places words → Meets s f below u v q p x asked asked′ places words places′ words′ cs ds
       → Agree (doneBy u asked places words .world) (doneBy v asked′ places′ words′ .world) cs ds′
       → Agree u v (begin asked places ∷ finish words ∷ cs) (begin asked′ places′ ∷ finish words′ ∷ ds′)
   agree-met r m rest = agree-round r (m .request) (m .list) (m .answered) rest
@@ -47,9 +47,9 @@ module _ (s : Sizes) (f : ℕ → ℕ) (below : (stamp : ℕ) → f stamp < leav
   pub agree : {u : World} {q p : Queue} {cs ds : List Call} → Twin s u q p cs ds → (v : World) → Pair s f below u v q p cs ds
       → Agree u v cs (labelled f (p .taken) ds)
   unfolding labelled
-  agree (ended i) v x = over (x .second .waiting)
+  agree (ended i) v x = over (x .second .stands .waiting)
   agree {u} {q} {p} (looked i n tw) v x =
-      let m = look-passes v (dressed f p) (x .second) (λ e. look-some u n (sym (same-c s f below i x) ∙ e)) in
+      let m = look-passes v s (dressed f p) (x .second) (λ e. look-some u n (sym (same-c s f below i x) ∙ e)) in
       goes-on (look-seen v ∙ sym (look-seen u)) (look-well v m) (agree tw (step v findMin .world) (pair-look s f below x m))
   agree {u} {q} {p} (taken {asked′ = insert word} both-insert r found fair tw) v x =
       ⊎-elim (λ m. agree-met r m (agree tw _ (m .later))) overflows (insert-meets s f below q p word r fair x)

@@ -50,8 +50,8 @@ module _ {s : Sizes} {u : World} {cs ds : List Call} (tw : Twin s u emptyQueue e
       subst (λ (ls : List ℕ). List·Permᴰ ls (labels cs)) (sym (labels-given f 0 ds))
       (List·Permᴰ·trans p (subst (λ (ls : List ℕ). List·Permᴰ ls (labels cs)) (sym deal-is) same-labels))
 
-  pub deal-below : u .card .sizes ≡ s → (stamp : ℕ) → deal cs ds stamp < leavesOf (s .h)
+  pub deal-below : (stamp : ℕ) → deal cs ds stamp < leavesOf (s .h)
   unfolding deal
-  deal-below z stamp =
+  deal-below stamp =
       paired-all (λ l. l < leavesOf (s .h)) (stampsLeaving ds) (labelsLeaving cs) (pow-pos (s .h))
-      (perm-all (λ l. l < leavesOf (s .h)) (Permᴰ·symm same-labels) (twin-below tw z)) stamp
+      (perm-all (λ l. l < leavesOf (s .h)) (Permᴰ·symm same-labels) (twin-below tw)) stamp

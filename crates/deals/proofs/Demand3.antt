@@ -47,8 +47,8 @@ agree-ends {v = v} (goes-on {d = d} same well rest) n =
 
 -- ---- two sequences on fresh worlds
 module _ (s : Sizes) (ok : inRange s ≡ true) where
-  fresh-idle : Idle (freshWorld s) emptyQueue
-  fresh-idle = record { holds = fresh-holds s ok; waiting = refl }
+  fresh-idle : Idle s (freshWorld s) emptyQueue
+  fresh-idle = fresh-holds s ok
 
   module _ (cs ds : List Call) (clear : clean (freshWorld s) cs ≡ true) (kinds : map kindOf ds ≡ map kindOf cs) (valid : Valid s emptyQueue ds) where
     side-by-side : Twin s (freshWorld s) emptyQueue emptyQueue cs ds
@@ -56,11 +56,9 @@ module _ (s : Sizes) (ok : inRange s ≡ true) where
 
     agrees : Agree (freshWorld s) (freshWorld s) cs (dealt cs ds)
     agrees =
-        agree s (deal cs ds) (deal-below side-by-side refl) side-by-side (freshWorld s)
+        agree s (deal cs ds) (deal-below side-by-side) side-by-side (freshWorld s)
         (record {
           second = fresh-idle;
-          sizes-first = refl;
-          sizes-second = refl;
           same-taken = refl;
           same-many = refl;
           bare = tt;
@@ -92,7 +90,7 @@ module _ (s : Sizes) (ok : inRange s ≡ true) where
       let given = labelled (x .label) 0 cs in
       let same : map kindOf ds ≡ map kindOf given = kinds ∙ sym (kinds-given (x .label) 0 cs) in
       let f = deal given ds in
-      let n = never f (deal-below (side-by-side s ok given ds (x .clear) same valid) refl) in
+      let n = never f (deal-below (side-by-side s ok given ds (x .clear) same valid)) in
       let (c, e) = agree-ends (agrees s ok given ds (x .clear) same valid) (n ∙ sym (length-given f 0 ds)) in
       record { label = f; clear = c; shown = e ∙ x .shown }
 

@@ -1,6 +1,6 @@
 -- Two sequences side by side, the second with labels dealt along the order in which events leave: one request on both asks for
 -- the same list and leaves the two side by side again, unless the second overflows. Assumes nothing.
-use Prim.Native.Nat.{ℕ, suc, _+_, _<_, _≤_}
+use Prim.Native.Nat.{ℕ, suc, _<_, _≤_}
 use mathlib.Core.Bool.{true}
 use mathlib.Core.List.{List, [], _∷_, _++_, map, head-eq-of-cons-eq, tail-eq-of-cons-eq}
 use mathlib.Core.Logic.{_⊎_, inl, inr, ⊎-elim}
@@ -13,11 +13,10 @@ use Rattle.record.specs.declared.Stamp.{Stamp}
 use Rattle.record.specs.Standing.{dummyKey}
 use Rattle.path.specs.declared.sizes.Sizes.{Sizes}
 use Rattle.path.specs.Sizes.{leavesOf}
-use Rattle.lists.specs.declared.Listed.{Listed as Counts}
-use Rattle.lists.specs.BucketList.{pairList, pathList, fetchedFor}
+use Rattle.lists.specs.BucketList.{pairList, pathList}
 use Rattle.request.specs.declared.Waiting.{Waiting}
 use Rattle.request.specs.declared.Waiting.the-variants.{Insert, Extract, Delete}
-use Rattle.request.specs.Tables.{countsFor}
+use Rattle.listing.specs.Listing.{countsFor}
 use Rattle.card.specs.Calls.{listOf}
 use Rattle.demands.specs.Queue.{Reference, Event, Queue, Request, has, withoutThis, extractMin, next, nothing, delete as remove}
 use Rattle.demands.specs.World.{World, Asked, insert, extract, delete, Call, begin, finish, findMin, step}
@@ -27,7 +26,7 @@ use Rattle.deals.specs.Sequences.{leaf, requests, blanks, unlabelled, we
 use Rattle.deals.specs.Dealing.{refIn, gone, leaving}
 use Rattle.deals.proofs.LeavingLaws.{All, all-append, all-in, There, out-all, has-one, least-in, stamps}
 use Rattle.deals.proofs.DressLaws.{ref, Bare, dress, dressed, has-dress, insert-dress, delete-dress, dressed-least, extract-dress}
-use Rattle.deals.proofs.RoundLaws.{Idle, idle-count, idle-least, idle-known, idle-begin, step-sizes, look-idle, doneBy, Round, round-passes}
+use Rattle.deals.proofs.RoundLaws.{Idle, idle-count, idle-least, idle-known, idle-begin, look-idle, doneBy, Round, round-passes}
 use Rattle.deals.proofs.RequestLaws.{insert-again, extract-again, delete-again, spoken, spoken-well}
 use Rattle.deals.proofs.TwinLaws.{OneKind, both-insert, both-extract, both-delete, taken}
 use Rattle.deals.proofs.ThereLaws.{extract-live, there-second, length-after}
@@ -43,24 +42,22 @@ labelledAs label key value first second word = insert {key = key} {value = value
 module _ (s : Sizes) (f : ℕ → ℕ) (below : (stamp : ℕ) → f stamp < leavesOf (s .h)) where
   -- the world of the second holds its plain queue, with these labels; what is left to leave has the labels of the first
   pub record Pair (u v : World) (q p : Queue) (cs ds : List Call) : Type 0 where
-    pub second : Idle v (dressed f p)
-    pub sizes-first : u .card .sizes ≡ s
-    pub sizes-second : v .card .sizes ≡ s
+    pub second : Idle s v (dressed f p)
     pub same-taken : q .taken ≡ p .taken
     pub same-many : length (q .events) ≡ length (p .events)
     pub bare : All Bare (p .events)
     pub leave : map f (stamps (leaving p (blanks ds))) ≡ map (λ r. r .label) (leaving q (requests cs))
 
-  module _ {u v : World} {q p : Queue} {cs ds : List Call} (i : Idle u q) (x : Pair u v q p cs ds) where
+  module _ {u v : World} {q p : Queue} {cs ds : List Call} (i : Idle s u q) (x : Pair u v q p cs ds) where
     same-sizes : v .card .sizes ≡ u .card .sizes
-    same-sizes = x .sizes-second ∙ sym (x .sizes-first)
+    same-sizes = x .second .stands .sizes ∙ sym (i .stands .sizes)
 
     same-t : v .card .t ≡ u .card .t
-    same-t = x .second .holds .stands .taken ∙ sym (x .same-taken) ∙ sym (i .holds .stands .taken)
+    same-t = x .second .stands .taken ∙ sym (x .same-taken) ∙ sym (i .stands .taken)
 
     pub same-c : v .card .c ≡ u .card .c
     same-c =
-        idle-count v (dressed f p) (x .second) ∙ length-map (p .events) (dress f) ∙ sym (x .same-many) ∙ sym (idle-count u q i)
+        idle-count s v (dressed f p) (x .second) ∙ length-map (p .events) (dress f) ∙ sym (x .same-many) ∙ sym (idle-count s u q i)
 
   -- FindMin on both
   pub pair-look : {u v : World} {q p : Queue} {cs ds : List Call} → Pair u v q p (findMin ∷ cs) (findMin ∷ ds) → numberGiven (step v findMin) ≡ 0
@@ -68,9 +65,7 @@ module _ (s : Sizes) (f : ℕ → ℕ) (below : (stamp : ℕ) → f stamp < leav
   unfolding leaving
   pair-look {u} {v} {q} {p} x n =
       record {
-        second = look-idle v (dressed f p) (x .second) n;
-        sizes-first = step-sizes u findMin ∙ x .sizes-first;
-        sizes-second = step-sizes v findMin ∙ x .sizes-second;
+        second = look-idle v s (dressed f p) (x .second) n;
         same-taken = x .same-taken;
         same-many = x .same-many;
         bare = x .bare;
@@ -88,19 +83,9 @@ module _ (s : Sizes) (f : ℕ → ℕ) (below : (stamp : ℕ) → f stamp < leav
         ap (λ (g : List Reference). map f (stamps (g ++ leaving (next p b) ss))) (sym ey) ∙ l
         ∙ ap (λ (g : List Reference). map (λ r. r .label) (g ++ leaving (next q a) rs)) ex
 
-  -- what is lent is enough
-  fair-room : {x : Waiting} {places words : List ℕ} (w : Waiting) (z : Sizes) (q : Queue) → z ≡ s → Fair s q x places words
-      → countsFor (s .h) w ≡ countsFor (s .h) x
-      → (countsFor (z .h) w .whole + countsFor (z .h) w .least ≤ length places) × (fetchedFor (z .z) (countsFor (z .h) w) ≤ length words)
-  fair-room {x} {places} {words} w z q e fair same =
-      let big : (m : Counts) → countsFor (s .h) x ≡ m → (m .whole + m .least ≤ length places) × (fetchedFor (s .z) m ≤ length words) =
-      λ m c. subst (λ (m : Counts). (m .whole + m .least ≤ length places) × (fetchedFor (s .z) m ≤ length words)) c (fair .room, fair .lent) in
-      subst (λ (z : Sizes). (countsFor (z .h) w .whole + countsFor (z .h) w .least ≤ length places) × (fetchedFor (z .z) (countsFor (z .h) w) ≤ length words))
-      (sym e) (big (countsFor (s .h) w) (sym same))
-
   -- what both leave is a pair again
   pair-next : {u v : World} (q p : Queue) {w x x′ : Waiting} {asked : Asked w} {asked′ : Asked x′} {places words places′ words′ : List ℕ}
-      {cs ds cs′ ds′ : List Call} → Pair u v q p cs′ ds′ → OneKind w x → Round u q asked places words → Round v (dressed f p) asked′ places′ words′
+      {cs ds cs′ ds′ : List Call} → Pair u v q p cs′ ds′ → OneKind w x → Round s u q asked places words → Round s v (dressed f p) asked′ places′ words′
       → next (dressed f p) (asks x′) ≡ dressed f (next p (unlabelled (asks x)))
       → next q (asks w) .taken ≡ next p (unlabelled (asks x)) .taken
       → There q (asks w) → There p (unlabelled (asks x)) → All Bare (next p (unlabelled (asks x)) .events)
@@ -109,9 +94,7 @@ module _ (s : Sizes) (f : ℕ → ℕ) (below : (stamp : ℕ) → f stamp < leav
       → Pair (doneBy u asked places words .world) (doneBy v asked′ places′ words′ .world) (next q (asks w)) (next p (unlabelled (asks x))) cs ds
   pair-next q p y same r t goes taken′ h k bare leave =
       record {
-        second = subst (Idle _) goes (t .after);
-        sizes-first = r .sizes ∙ y .sizes-first;
-        sizes-second = t .sizes ∙ y .sizes-second;
+        second = subst (Idle s _) goes (t .after);
         same-taken = taken′;
         same-many = length-after same q p h k (y .same-many);
         bare = bare;
@@ -120,7 +103,7 @@ module _ (s : Sizes) (f : ℕ → ℕ) (below : (stamp : ℕ) → f stamp < leav
 
   pub record Meets (u v : World) (q p : Queue) {w x′ : Waiting} (x : Waiting) (asked : Asked w) (asked′ : Asked x′)
       (places words places′ words′ : List ℕ) (cs ds : List Call) : Type 0 where
-    pub request : Round v (dressed f p) asked′ places′ words′
+    pub request : Round s v (dressed f p) asked′ places′ words′
     pub list : listOf (v .card) x′ ≡ listOf (u .card) w
     pub answered : well (doneBy v asked′ places′ words′ .answer) ≡ true
     pub later :
@@ -129,7 +112,7 @@ module _ (s : Sizes) (f : ℕ → ℕ) (below : (stamp : ℕ) → f stamp < leav
   -- Insert: taken, or an Overflow
   pub insert-meets : {u v : World} (q p : Queue) {cs ds : List Call} {key value key′ value′ : ℕ} {label label′ first second : Leaf}
       {asked : Asked (Insert key value label first second)} {places words places′ words′ : List ℕ} (word : key′ ≤ dummyKey)
-      → Round u q asked places words → Fair s p (Insert key′ value′ label′ first second) places′ words′
+      → Round s u q asked places words → Fair s p (Insert key′ value′ label′ first second) places′ words′
       → Pair u v q p (begin asked places ∷ finish words ∷ cs)
       (begin (insert {key = key′} {value = value′} {label = label′} {first = first} {second = second} word) places′ ∷ finish words′ ∷ ds)
       → Meets u v q p (Insert key′ value′ label′ first second) asked (labelledAs (f (p .taken)) key′ value′ first second word) places words places′ words′ cs ds
@@ -137,11 +120,10 @@ module _ (s : Sizes) (f : ℕ → ℕ) (below : (stamp : ℕ) → f stamp < leav
   unfolding leaving listOf countsFor
   insert-meets {u} {v} q p {key = key} {value} {key′} {value′} {label} {label′} {first} {second} {places′ = places′} {words′ = words′} word r fair x =
       let given = labelledAs (f (p .taken)) key′ value′ first second word in
-      let lent = fair-room (Insert key′ value′ (leaf (f (p .taken))) first second) (v .card .sizes) p (x .sizes-second) fair refl in
-      let n = idle-begin v (dressed f p) (x .second) given places′ (lent .0) in
+      let n = idle-begin s v (dressed f p) (x .second) given places′ (fair .room) in
       ⊎-elim
       (λ e.
-      let t = round-passes v (dressed f p) given places′ words′ (x .second) (n ∙ e) (lent .1) in
+      let t = round-passes s v (dressed f p) given places′ words′ (x .second) (n ∙ e) (fair .lent) in
       inl (record {
         request = t;
         list = ap (λ (z : Sizes). pairList (z .h) first second) (same-sizes (r .before) x);
@@ -152,20 +134,19 @@ module _ (s : Sizes) (f : ℕ → ℕ) (below : (stamp : ℕ) → f stamp < leav
       (λ e. inr (n ∙ e))
       (insert-again (u .card) (v .card) (same-sizes (r .before) x) (same-t (r .before) x) (same-c (r .before) x) key value label first second
       key′ value′ (leaf (f (p .taken))) (r .request) (fair .sound)
-      (subst (λ (z : Sizes). f (p .taken) < leavesOf (z .h)) (sym (x .sizes-first)) (below (p .taken))))
+      (subst (λ (z : Sizes). f (p .taken) < leavesOf (z .h)) (sym (r .before .stands .sizes)) (below (p .taken))))
 
   -- ExtractMin: both take out their least, and the label of the one is dealt to the other
   pub extract-meets : {u v : World} (q p : Queue) {cs ds : List Call} {asked : Asked Extract} {places words places′ words′ : List ℕ}
-      → Round u q asked places words → Fair s p Extract places′ words′
+      → Round s u q asked places words → Fair s p Extract places′ words′
       → Pair u v q p (begin asked places ∷ finish words ∷ cs) (begin extract places′ ∷ finish words′ ∷ ds)
       → Meets u v q p Extract asked extract places words places′ words′ cs ds
   unfolding leaving listOf countsFor
   extract-meets {u} {v} q p {cs} {ds} {places′ = places′} {words′ = words′} r fair x =
-      let lent = fair-room Extract (v .card .sizes) p (x .sizes-second) fair refl in
-      let n = idle-begin v (dressed f p) (x .second) extract places′ (lent .0) in
+      let n = idle-begin s v (dressed f p) (x .second) extract places′ (fair .room) in
       let e = extract-again (u .card) (v .card) (same-sizes (r .before) x) (same-t (r .before) x) (same-c (r .before) x) (r .request) in
-      let t = round-passes v (dressed f p) extract places′ words′ (x .second) (n ∙ e) (lent .1) in
-      let ours = idle-least u q (r .before) (extract-live r) in
+      let t = round-passes s v (dressed f p) extract places′ words′ (x .second) (n ∙ e) (fair .lent) in
+      let ours = idle-least s u q (r .before) (extract-live r) in
       let h : There q extractMin = (eventOf (u .card .least), ours) in
       let k = there-second both-extract q p h (x .same-many) fair in
       let (m, least) = k in
@@ -173,7 +154,7 @@ module _ (s : Sizes) (f : ℕ → ℕ) (below : (stamp : ℕ) → f stamp < leav
       let leave =
       both-leave q p extractMin extractMin (requests cs) (blanks ds) (eventOf (u .card .least) .ref) (m .ref) (x .leave) (ap refIn ours) (ap refIn least) in
       let is : some (eventOf (v .card .least)) ≡ some (dress f m) =
-      sym (idle-least v (dressed f p) (x .second) (extract-live t)) ∙ dressed-least f p m least in
+      sym (idle-least s v (dressed f p) (x .second) (extract-live t)) ∙ dressed-least f p m least in
       let head : f (m .ref .stamp) ≡ u .card .least .label .0 = head-eq-of-cons-eq leave in
       let label : v .card .least .label .0 ≡ u .card .least .label .0 = same-label (eventOf (v .card .least)) (dress f m) is ∙ head in
       record {
@@ -186,7 +167,7 @@ module _ (s : Sizes) (f : ℕ → ℕ) (below : (stamp : ℕ) → f stamp < leav
 
   -- Delete: each names a live event, and the label of the one is dealt to the other
   pub delete-meets : {u v : World} (q p : Queue) {cs ds : List Call} {label label′ : Leaf} {stamp stamp′ : Stamp} {asked : Asked (Delete label stamp)}
-      {places words places′ words′ : List ℕ} → Round u q asked places words → There q (asks (Delete label stamp))
+      {places words places′ words′ : List ℕ} → Round s u q asked places words → There q (asks (Delete label stamp))
       → Fair s p (Delete label′ stamp′) places′ words′
       → Pair u v q p (begin asked places ∷ finish words ∷ cs) (begin (delete {label = label′} {stamp = stamp′}) places′ ∷ finish words′ ∷ ds)
       → Meets u v q p (Delete label′ stamp′) asked (delete {label = leaf (f (stamp′ .0))} {stamp = stamp′}) places words places′ words′ cs ds
@@ -194,16 +175,15 @@ module _ (s : Sizes) (f : ℕ → ℕ) (below : (stamp : ℕ) → f stamp < leav
   delete-meets {u} {v} q p {cs} {ds} {label} {label′} {stamp} {stamp′} {places′ = places′} {words′ = words′} r h fair x =
       let own = leaf (f (stamp′ .0)) in
       let deleted = delete {label = own} {stamp = stamp′} in
-      let lent = fair-room (Delete own stamp′) (v .card .sizes) p (x .sizes-second) fair refl in
-      let n = idle-begin v (dressed f p) (x .second) deleted places′ (lent .0) in
+      let n = idle-begin s v (dressed f p) (x .second) deleted places′ (fair .room) in
       let live : has (ref (f (stamp′ .0)) (stamp′ .0)) (dressed f p .events) ≡ true = has-dress f (stamp′ .0) (p .events) (x .bare) ∙ fair .sound in
       let (event, inside, is) = has-one (ref (f (stamp′ .0)) (stamp′ .0)) (dressed f p .events) live in
       let earlier : stamp′ .0 < u .card .t =
-      omega (arith, idle-known v (dressed f p) (x .second) event inside, ap (λ (r : Reference). r .stamp) is, same-t (r .before) x) in
+      omega (arith, idle-known s v (dressed f p) (x .second) event inside, ap (λ (r : Reference). r .stamp) is, same-t (r .before) x) in
       let e =
       delete-again (u .card) (v .card) (same-sizes (r .before) x) (same-t (r .before) x) (same-c (r .before) x) label own stamp stamp′ (r .request)
-      (subst (λ (z : Sizes). f (stamp′ .0) < leavesOf (z .h)) (sym (x .sizes-first)) (below (stamp′ .0))) earlier in
-      let t = round-passes v (dressed f p) deleted places′ words′ (x .second) (n ∙ e) (lent .1) in
+      (subst (λ (z : Sizes). f (stamp′ .0) < leavesOf (z .h)) (sym (r .before .stands .sizes)) (below (stamp′ .0))) earlier in
+      let t = round-passes s v (dressed f p) deleted places′ words′ (x .second) (n ∙ e) (fair .lent) in
       let leave =
       both-leave q p (asks (Delete label stamp)) (remove (ref 0 (stamp′ .0))) (requests cs) (blanks ds) (refOf label stamp) (ref 0 (stamp′ .0)) (x .leave) refl refl in
       let head : f (stamp′ .0) ≡ label .0 = head-eq-of-cons-eq leave in

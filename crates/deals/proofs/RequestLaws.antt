@@ -1,5 +1,5 @@
--- Which requests a card takes that has the sizes and counts of another, and which answers say that an event was found. Assumes
--- nothing.
+-- Which requests a card takes that has the sizes and counts of another, and which answers say that an event was found.
+-- Assumes nothing.
 use Prim.Native.Nat.{ℕ, _/_, _<_}
 use mathlib.Core.Bool.{Bool, true, false, cond}
 use mathlib.Core.Logic.{_⊎_, inl, inr}
@@ -16,8 +16,8 @@ use Rattle.root.specs.Root.{rootFull}
 use Rattle.card.specs.declared.Card.{Card}
 use Rattle.request.specs.declared.Waiting.{Waiting}
 use Rattle.request.specs.declared.Waiting.the-variants.{Insert, Extract, Delete}
-use Rattle.card.specs.declared.Answer.{Answer}
-use Rattle.card.specs.declared.Answer.the-variants.{Started, Listed, Least, Withdrawn, Inserted, Extracted, Deleted, Refused}
+use Rattle.answers.specs.declared.Answer.{Answer}
+use Rattle.answers.specs.declared.Answer.the-variants.{Started, Listed, Least, Withdrawn, Inserted, Extracted, Deleted, Refused}
 use Rattle.request.specs.Tables.{insertRows, deleteRows, requestRows}
 use Rattle.card.specs.Tables.{requestTable}
 use Rattle.card.proofs.BeginLaws.{insertable, deletable}
@@ -75,7 +75,7 @@ spoken silent = false
 pub spoken-well : (a : Answer) → spoken (says a) ≡ true → well a ≡ true
 spoken-well Started e = refl
 spoken-well (Listed whole least) e = refl
-spoken-well (Least r) e = refl
+spoken-well (Least r words) e = refl
 spoken-well Withdrawn e = e
 spoken-well (Inserted label stamp words) e = refl
 spoken-well (Extracted r words) e = refl
@@ -91,7 +91,7 @@ heard silent = true
 well-heard : (a : Answer) → well a ≡ true → heard (says a) ≡ true
 well-heard Started e = refl
 well-heard (Listed whole least) e = refl
-well-heard (Least r) e = refl
+well-heard (Least r words) e = refl
 well-heard Withdrawn e = refl
 well-heard (Inserted label stamp words) e = refl
 well-heard (Extracted r words) e = refl

@@ -31,9 +31,10 @@ use Rattle.settle.specs.Left.{removal, insertion, removalDamaged, insertionDama
 use Rattle.rack.specs.Answers.{anyOutside}
 use Rattle.copies.specs.Copy.{stored}
 use Rattle.request.specs.declared.Waiting.{Waiting}
-use Rattle.card.specs.Answers.{orRefused, valuesOf}
+use Rattle.answers.specs.Answers.{valuesOf}
+use Rattle.card.specs.Answers.{orRefused}
 use Rattle.card.specs.BadCard.{badCard}
-use Rattle.request.specs.Tables.{countsFor}
+use Rattle.listing.specs.Listing.{countsFor}
 use Rattle.card.specs.Calls.{listOf, beginTable, minTable}
 use Rattle.card.specs.Finish.{leftBy, damagedBy, entryTable, finishedBy}
 use Rattle.request.specs.Tables.{insertRows, extractRows, deleteRows, requestRows, waits}

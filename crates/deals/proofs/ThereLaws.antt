@@ -1,5 +1,5 @@
--- What each of two sequences side by side takes out of its plain queue is there, and both queues stay of one length. Assumes
--- nothing.
+-- What each of two sequences side by side takes out of its plain queue is there, and both queues stay of one length.
+-- Assumes nothing.
 use Prim.Native.Nat.{ℕ, suc, _-_, _<_, _≤_}
 use mathlib.Core.Bool.{true}
 use mathlib.Core.List.{List, [], _∷_, map, List·Memᴰ, List·Memᴰ·head, List·Memᴰ·tail}
@@ -18,7 +18,7 @@ use Rattle.demands.specs.Says.{eventOf, asks}
 use Rattle.demands.proofs.SortedLaws.{has-live}
 use Rattle.deals.specs.Sequences.{requests, blanks, unlabelled, labels, labelled, well, Fair}
 use Rattle.deals.proofs.LeavingLaws.{All, There, Feasible, made, stamps, least-some, least-in, out-length}
-use Rattle.deals.proofs.RoundLaws.{idle-least, step-sizes, doneBy, Round}
+use Rattle.deals.proofs.RoundLaws.{idle-least, doneBy, Round}
 use Rattle.deals.proofs.RequestLaws.{well-found}
 use Rattle.deals.proofs.TwinLaws.{OneKind, both-insert, both-extract, both-delete, Twin, ended, looked, taken}
 
@@ -45,14 +45,14 @@ some-live (List·Memᴰ·head e) = omega arith
 some-live (List·Memᴰ·tail m) = omega arith
 
 -- ---- the first
-pub extract-live : {u : World} {q : Queue} {asked : Asked Extract} {places words : List ℕ} → Round u q asked places words → 1 ≤ u .card .c
-extract-live {u} r = omega (arith, extractable (u .card) (r .request) .some)
+pub extract-live : {s : Sizes} {u : World} {q : Queue} {asked : Asked Extract} {places words : List ℕ} → Round s u q asked places words → 1 ≤ u .card .c
+extract-live {u = u} r = omega (arith, extractable (u .card) (r .request) .some)
 
-pub there-first : {u : World} {q : Queue} {w x : Waiting} {asked : Asked w} {places words : List ℕ} → OneKind w x
-    → (r : Round u q asked places words) → well (doneBy u asked places words .answer) ≡ true → There q (asks w)
+pub there-first : {s : Sizes} {u : World} {q : Queue} {w x : Waiting} {asked : Asked w} {places words : List ℕ} → OneKind w x
+    → (r : Round s u q asked places words) → well (doneBy u asked places words .answer) ≡ true → There q (asks w)
 there-first both-insert r f = tt
-there-first {u} {q} both-extract r f = (eventOf (u .card .least), idle-least u q (r .before) (extract-live r))
-there-first {u} {asked = asked} {places = places} {words = words} both-delete r f = well-found (doneBy u asked places words .answer) _ f (r .said)
+there-first {s} {u} {q} both-extract r f = (eventOf (u .card .least), idle-least s u q (r .before) (extract-live r))
+there-first {u = u} {asked = asked} {places = places} {words = words} both-delete r f = well-found (doneBy u asked places words .answer) _ f (r .said)
 
 pub twin-first : {s : Sizes} {u : World} {q p : Queue} {cs ds : List Call} → Twin s u q p cs ds → Feasible q (requests cs)
 twin-first (ended i) = tt
@@ -123,14 +123,13 @@ length-given f t [] = refl
 length-given f t (d ∷ ds) = ap suc (length-given f _ ds)
 
 -- the first's labels are below N
-pub twin-below : {s : Sizes} {u : World} {q p : Queue} {cs ds : List Call} → Twin s u q p cs ds → u .card .sizes ≡ s
-    → All (λ l. l < leavesOf (s .h)) (labels cs)
+pub twin-below : {s : Sizes} {u : World} {q p : Queue} {cs ds : List Call} → Twin s u q p cs ds → All (λ l. l < leavesOf (s .h)) (labels cs)
 unfolding labels
-twin-below (ended i) e = tt
-twin-below {u = u} (looked i m tw) e = twin-below tw (step-sizes u looksAt ∙ e)
-twin-below {u = u} (taken (both-insert {key} {value} {label = label} {first = first} {second = second}) r f fair tw) e = (
-  subst (λ (s : Sizes). label .0 < leavesOf (s .h)) e (insertable (u .card) key value label first second (r .request) .label),
-  twin-below tw (r .sizes ∙ e),
+twin-below (ended i) = tt
+twin-below (looked i m tw) = twin-below tw
+twin-below {u = u} (taken (both-insert {key} {value} {label = label} {first = first} {second = second}) r f fair tw) = (
+  subst (λ (s : Sizes). label .0 < leavesOf (s .h)) (r .before .stands .sizes) (insertable (u .card) key value label first second (r .request) .label),
+  twin-below tw,
 )
-twin-below (taken both-extract r f fair tw) e = twin-below tw (r .sizes ∙ e)
-twin-below (taken both-delete r f fair tw) e = twin-below tw (r .sizes ∙ e)
+twin-below (taken both-extract r f fair tw) = twin-below tw
+twin-below (taken both-delete r f fair tw) = twin-below tw

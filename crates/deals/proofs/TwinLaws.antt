@@ -62,11 +62,11 @@ begins-one (delete {label} {stamp}) c e = shaped deletes c e label stamp
 
 -- ---- two sequences side by side: the world and the plain queue of the first, the plain queue of the second without labels
 pub data Twin (s : Sizes) : World → Queue → Queue → List Call → List Call → Type 0 where
-  ended : {u : World} {q p : Queue} → Idle u q → Twin s u q p [] []
-  looked : {u : World} {q p : Queue} {cs ds : List Call} → Idle u q → numberGiven (step u findMin) ≡ 0
+  ended : {u : World} {q p : Queue} → Idle s u q → Twin s u q p [] []
+  looked : {u : World} {q p : Queue} {cs ds : List Call} → Idle s u q → numberGiven (step u findMin) ≡ 0
       → Twin s (step u findMin .world) q p cs ds → Twin s u q p (findMin ∷ cs) (findMin ∷ ds)
   taken : {u : World} {q p : Queue} {w x : Waiting} {asked : Asked w} {asked′ : Asked x} {places words places′ words′ : List ℕ}
-      {cs ds : List Call} → OneKind w x → Round u q asked places words → well (doneBy u asked places words .answer) ≡ true
+      {cs ds : List Call} → OneKind w x → Round s u q asked places words → well (doneBy u asked places words .answer) ≡ true
       → Fair s p x places′ words′
       → Twin s (doneBy u asked places words .world) (next q (asks w)) (next p (unlabelled (asks x))) cs ds
       → Twin s u q p (begin asked places ∷ finish words ∷ cs) (begin asked′ places′ ∷ finish words′ ∷ ds)
@@ -84,25 +84,25 @@ module _ (u : World) (c : Call) (cs : List Call) (k : clean u (c ∷ cs) ≡ tru
   clean-later = both (well (step u c .answer)) (clean (step u c .world) cs) .0 k .1
 
 module _ (s : Sizes) where
-  twin-look : {c : Call} {u : World} {q p : Queue} {cs ds : List Call} → Looks c → Idle u q → clean u (c ∷ cs) ≡ true
-      → ((v : World) → Idle v q → clean v cs ≡ true → Twin s v q p cs ds) → Twin s u q p (c ∷ cs) (findMin ∷ ds)
+  twin-look : {c : Call} {u : World} {q p : Queue} {cs ds : List Call} → Looks c → Idle s u q → clean u (c ∷ cs) ≡ true
+      → ((v : World) → Idle s v q → clean v cs ≡ true → Twin s v q p cs ds) → Twin s u q p (c ∷ cs) (findMin ∷ ds)
   twin-look {u = u} {q = q} {cs = cs} looking i k later =
       let n = passes-well u findMin (clean-here u findMin cs k) in
-      looked i n (later (step u findMin .world) (look-idle u q i n) (clean-later u findMin cs k))
+      looked i n (later (step u findMin .world) (look-idle u s q i n) (clean-later u findMin cs k))
 
   twin-take : {c d : Call} {x : Waiting} {u : World} {q p : Queue} {asked′ : Asked x} {places′ words′ : List ℕ} {cs ds : List Call}
-      → Begins x c → Finishes d → Fair s p x places′ words′ → Idle u q → clean u (c ∷ d ∷ cs) ≡ true
-      → ((v : World) (r : Queue) → Idle v r → clean v cs ≡ true → Twin s v r (next p (unlabelled (asks x))) cs ds)
+      → Begins x c → Finishes d → Fair s p x places′ words′ → Idle s u q → clean u (c ∷ d ∷ cs) ≡ true
+      → ((v : World) (r : Queue) → Idle s v r → clean v cs ≡ true → Twin s v r (next p (unlabelled (asks x))) cs ds)
       → Twin s u q p (c ∷ d ∷ cs) (begin asked′ places′ ∷ finish words′ ∷ ds)
   twin-take {u = u} {q = q} {cs = cs} (begins {w = w} {asked = asked} {places = places} same) (finishing {words = words}) fair i k later =
       let b = clean-here u (begin asked places) (finish words ∷ cs) k in
       let rest = clean-later u (begin asked places) (finish words ∷ cs) k in
       let f = clean-here (begunBy u asked places) (finish words) cs rest in
-      let r = round u q asked places words i (passes-well u (begin asked places) b) (passes-well (begunBy u asked places) (finish words) f) in
+      let r = round s u q asked places words i (passes-well u (begin asked places) b) (passes-well (begunBy u asked places) (finish words) f) in
       taken same r f fair
       (later (doneBy u asked places words .world) (next q (asks w)) (r .after) (clean-later (begunBy u asked places) (finish words) cs rest))
 
-  pub twin : {p : Queue} {ds : List Call} → Valid s p ds → (cs : List Call) (u : World) (q : Queue) → map kindOf ds ≡ map kindOf cs → Idle u q
+  pub twin : {p : Queue} {ds : List Call} → Valid s p ds → (cs : List Call) (u : World) (q : Queue) → map kindOf ds ≡ map kindOf cs → Idle s u q
       → clean u cs ≡ true → Twin s u q p cs ds
   twin none [] u q e i k = ended i
   twin none (c ∷ cs) u q e i k = none-some e

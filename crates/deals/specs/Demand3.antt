@@ -1,5 +1,6 @@
 -- Demand 3, over the definitions that the contracts of `card` and `rack` cite: the lists give nothing away. Proved as `demand3` in
--- proofs/Demand3.antt. Assumes nothing.
+-- proofs/Demand3.antt. The rack is honest, as `HonestRack` of demand 2 has it: `step` fetches out of the tree that the last store
+-- left, and its "store is done before the next begin". Assumes nothing.
 use Prim.Native.Nat.{ℕ, _<_}
 use mathlib.Core.Bool.{true}
 use mathlib.Core.List.{List, map, List·Permᴰ}

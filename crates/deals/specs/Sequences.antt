@@ -9,10 +9,10 @@ use Rattle.record.specs.Standing.{dummyKey}
 use Rattle.path.specs.declared.sizes.Sizes.{Sizes}
 use Rattle.lists.specs.BucketList.{fetchedFor}
 use Rattle.request.specs.declared.Waiting.{Waiting}
-use Rattle.card.specs.declared.Answer.{Answer}
-use Rattle.card.specs.declared.Answer.the-variants.{Started, Listed, Least, Withdrawn, Inserted, Extracted, Deleted, Refused}
+use Rattle.answers.specs.declared.Answer.{Answer}
+use Rattle.answers.specs.declared.Answer.the-variants.{Started, Listed, Least, Withdrawn, Inserted, Extracted, Deleted, Refused}
 use Rattle.request.specs.Tables.{waits}
-use Rattle.request.specs.Tables.{countsFor}
+use Rattle.listing.specs.Listing.{countsFor}
 use Rattle.demands.specs.Queue.{Queue, Request, nothing, extractMin, has, next, insert as put, delete as remove, findMin as findLeast}
 use Rattle.demands.specs.World.{World, Asked, insert, extract, delete, Call, begin, finish, withdraw, findMin, step}
 use Rattle.demands.specs.Says.{asks}
@@ -89,7 +89,7 @@ labels (c ∷ cs) = labelIn (wanted c) ++ labels cs
 abbrev pub well : Answer → Bool
 well Started = true
 well (Listed whole least) = true
-well (Least r) = true
+well (Least r words) = true
 well Withdrawn = false
 well (Inserted label stamp words) = true
 well (Extracted r words) = true

@@ -5,9 +5,10 @@ use mathlib.Core.Bool.{cond}
 use mathlib.Core.List.{List, [], _∷_}
 use lib.Dec.{eqb}
 use Rattle.record.specs.declared.Bucket.{Bucket}
-use Rattle.lists.specs.BucketList.{BucketList}
-use Rattle.card.specs.Answers.{numberOf}
-use Rattle.demands.specs.World.{World, Call, begin, finish, withdraw, findMin, Outcome, held, unless, step}
+use Rattle.lists.specs.BucketList.{BucketList, noBuckets}
+use Rattle.answers.specs.Answers.{numberOf}
+use Rattle.refusal.specs.Refusal.{afterwards}
+use Rattle.demands.specs.World.{World, Call, begin, finish, withdraw, findMin, Outcome, held, step}
 
 -- Of one call: the list that is asked for, "how many are whole and how many are least-record only", and the buckets that the rack
 -- "stores .. back, in list order". All are bucket numbers, in order.
@@ -15,25 +16,22 @@ pub record Seen : Type 0 where
   pub asked : BucketList
   pub stored : List Bucket
 
-abbrev pub noList : BucketList
-noList = record { whole = []; least = [] }
-
 -- the list that a begin leaves with its counts, and the list that was held when a finish ended
 abbrev pub askedFor : BucketList → Seen
 askedFor l = record { asked = l; stored = [] }
 
 abbrev pub storedBack : BucketList → Seen
-storedBack l = record { asked = noList; stored = l .whole }
+storedBack l = record { asked = noBuckets; stored = l .whole }
 
 abbrev pub numberGiven : Outcome → ℕ
 numberGiven o = numberOf (o .answer)
 
 -- a call that is refused shows nothing, and "FindMin answers .. with an empty list"
 unfoldable pub seen : World → Call → Seen
-seen u (begin asked places) = askedFor (unless (numberGiven (step u (begin asked places))) (held (step u (begin asked places) .world)) noList)
-seen u (finish words) = storedBack (unless (numberGiven (step u (finish words))) (held u) noList)
-seen u withdraw = askedFor noList
-seen u findMin = askedFor noList
+seen u (begin asked places) = askedFor (afterwards (numberGiven (step u (begin asked places))) (held (step u (begin asked places) .world)) noBuckets)
+seen u (finish words) = storedBack (afterwards (numberGiven (step u (finish words))) (held u) noBuckets)
+seen u withdraw = askedFor noBuckets
+seen u findMin = askedFor noBuckets
 
 -- of all calls, one after the other
 unfoldable pub trace : World → List Call → List Seen

@@ -15,6 +15,7 @@ use Rattle.path.specs.Sizes.{leavesOf}
 use Rattle.clearing.specs.Removal.{named, found}
 use Rattle.clearing.proofs.RemovalLaws.{member-found}
 use Rattle.judge.specs.BadParts.{stampOf}
+use Rattle.settle.specs.Left.{Left}
 use Rattle.copies.specs.Copy.{fetched}
 use Rattle.card.specs.declared.Card.{Card}
 use Rattle.request.specs.declared.Waiting.{Waiting}
@@ -23,7 +24,7 @@ use Rattle.request.specs.Tables.{waits}
 use Rattle.card.specs.Calls.{listOf}
 use Rattle.card.specs.Finish.{leftBy, cardLeft, finishedBy, finished}
 use Rattle.card.specs.declared.Done.{Done}
-use Rattle.card.specs.Answers.{numberOf}
+use Rattle.answers.specs.Answers.{numberOf}
 use Rattle.card.proofs.BeginLaws.{extractable}
 use Rattle.good.specs.Live.{without, Ascending}
 use Rattle.good.proofs.PickLaws.{is-named}
@@ -46,6 +47,14 @@ least-of : (leaves : ℕ) (next : Stamp) (live : List Record) → ((y : Record) 
     → Ascending live → (m : Record) → List·Memᴰ m live → leastEvent (map eventOf live) ≡ some (eventOf (smallest live))
 least-of leaves next [] k a m i = absurd (List·Memᴰ·not-nil i)
 least-of leaves next (x ∷ xs) k a m i = least-smallest leaves next x xs k a
+
+-- a request that waits is finished with no refusal
+pub finished-number : (k : Card) (w : Waiting) (l : Left) → waits w ≡ true → numberOf (finishedBy k w l .answer) ≡ 0
+unfolding waits finishedBy
+finished-number k Nothing l busy = absurd (true≢false (sym busy))
+finished-number k (Insert key value label first second) l busy = refl
+finished-number k Extract l busy = refl
+finished-number k (Delete label stamp) l busy = refl
 
 module _ (k : Card) (tree : List ℕ) (live : List Record) (r : Ready k tree live) where
   known : (y : Record) → List·Memᴰ y live → isProper (leavesOf (k .sizes .h)) (stampOf (k .t)) y ≡ true
@@ -104,13 +113,6 @@ module _ (k : Card) (tree : List ℕ) (live : List Record) (r : Ready k tree liv
     says-so (Delete label stamp) e busy =
         ap wasFound (delete-found k tree words live r label stamp e ∙ sym (has-found label stamp live real))
 
-    done-so : (w : Waiting) → waits w ≡ true → numberOf (finishedBy k w (leftBy k w (shown w)) .answer) ≡ 0
-    unfolding waits finishedBy
-    done-so Nothing busy = absurd (true≢false (sym busy))
-    done-so (Insert key value label first second) busy = refl
-    done-so Extract busy = refl
-    done-so (Delete label stamp) busy = refl
-
     module _ (busy : waits (k .waiting) ≡ true) where
       abbrev out : Done
       out = finished k (shown (k .waiting))
@@ -120,7 +122,7 @@ module _ (k : Card) (tree : List ℕ) (live : List Record) (r : Ready k tree liv
       finish-says = says-so (k .waiting) refl busy
 
       pub finish-numbered : numberOf (out .answer) ≡ 0
-      finish-numbered = done-so (k .waiting) busy
+      finish-numbered = finished-number k (k .waiting) _ busy
 
       pub finish-card : out .card ≡ cardLeft k (leftBy k (k .waiting) (shown (k .waiting)))
       finish-card = finished-card k (k .waiting) _ busy

@@ -1,61 +1,53 @@
 -- Whole requests of which none is refused are answered as the queue replies to them; so insertions and then as many
 -- ExtractMins sort. Assumes nothing.
-use Prim.Native.Nat.{ℕ, zero, suc, _+_, _≤_}
+use Prim.Native.Nat.{ℕ, zero, suc, _≤_}
 use mathlib.Core.Bool.{true}
 use mathlib.Core.List.{List, [], _∷_, _++_, map, append-nil, append-assoc, List·Memᴰ, List·Memᴰ·head, List·Memᴰ·tail, List·Memᴰ·not-nil}
-use mathlib.Core.Logic.{_⊎_, inl, inr, ⊎-elim}
+use mathlib.Core.Logic.{inl, inr, ⊎-elim}
 use mathlib.Core.Option.{some}
 use mathlib.Core.Path.{_≡_, refl, sym, ap, _∙_, subst}
 use mathlib.Mathlib.Data.Bool.Basic.{dichotomy}
 use native.Mathlib.Omega.{arith}
-use lib.Dec.{eqb}
 use lib.ListN.{length, take, drop, replicate, length-map}
 use lib.Seq.{take-all, drop-at}
-use borrow.Author.Tests.{eqb-false}
 use Rattle.path.specs.declared.sizes.Sizes.{Sizes}
 use Rattle.path.specs.Sizes.{inRange}
-use Rattle.refusal.specs.Refusal.{firstGiven}
 use Rattle.request.specs.declared.Waiting.{Waiting}
-use Rattle.card.specs.Answers.{orRefused, numberOf}
-use Rattle.card.specs.Calls.{beginTable}
+use Rattle.request.specs.declared.Waiting.the-variants.{Nothing}
+use Rattle.answers.specs.Answers.{numberOf}
 use Rattle.demands.specs.Queue.{Reference, Event, Queue, Request, Reply, emptyQueue, noDearer, told, extractMin, reply, next}
-use Rattle.demands.specs.World.{World, freshWorld, Asked, Call, begin, finish, Outcome, step}
-use Rattle.demands.specs.Says.{asks, says, requestOf}
-use Rattle.demands.specs.Demand2.{Refuses, Answers}
+use Rattle.demands.specs.World.{World, freshWorld, Call, begin, finish, Outcome, step}
+use Rattle.demands.specs.Says.{asks, says}
+use Rattle.demands.specs.Refusals.{refusalOf}
+use Rattle.demands.specs.Demand2.{Refuses}
 use Rattle.demands.specs.Sorted.{sorted, placed, extracts, Distinct, none as alone, more as apart}
 use Rattle.demands.specs.Jobs.{Job, job, Passes, none, more, answers, wanted, replies, Input, insertOf, made, eventsFrom}
-use Rattle.demands.proofs.StepLaws.{Holds, Plays}
+use Rattle.demands.proofs.StepLaws.{Holds, Goes, Plays}
 use Rattle.demands.proofs.Demand2.{plays, fresh-holds}
 use Rattle.demands.proofs.SortedLaws.{extracts-sorted}
 
 -- a call that is not refused
-pub passed : {u : World} {q : Queue} {c : Call} {o : Outcome} → Plays u q c o → numberOf (o .answer) ≡ 0
-    → Answers q (requestOf u c) o × Holds (o .world) (next q (requestOf u c))
-passed {u} {q} {c} {o} p e =
-    ⊎-elim (λ (n : Refuses u o). absurd (n .some (sym (ap numberOf (n .given)) ∙ e)))
-    (λ (a : Answers q (requestOf u c) o × Holds (o .world) (next q (requestOf u c))). a) (p .card)
+pub passed : {s : Sizes} {u : World} {p : Waiting} {q : Queue} {c : Call} {o : Outcome} → Plays s u p q c o → numberOf (o .answer) ≡ 0
+    → Goes s u p q c o
+passed {s} {u} {p} {q} {c} {o} play e =
+    ⊎-elim (λ (n : Refuses s u p q c o). absurd (n .some (sym (ap numberOf (n .given)) ∙ e))) (λ (a : Goes s u p q c o). a) (play .card)
 
--- a begin that is not refused has its request wait
-pub waits-now : (u : World) {w : Waiting} (asked : Asked w) (lent : List ℕ) → numberOf (step u (begin asked lent) .answer) ≡ 0
-    → step u (begin asked lent) .world .card .waiting ≡ w
-unfolding step orRefused
-waits-now u {w} asked lent e =
-    let n = firstGiven (beginTable (u .card) w (length lent)) in
-    elim (dichotomy (eqb n 0)) [
-      | inl f ↦ absurd (eqb-false n 0 f (rw f at e))
-      | inr t ↦ rw t
-    ]
+-- nor is one that queue and pending request do not refuse
+pub allowed : {s : Sizes} {u : World} {p : Waiting} {q : Queue} {c : Call} {o : Outcome} → Plays s u p q c o
+    → refusalOf s (u .card .root) p q c ≡ 0 → Goes s u p q c o
+allowed {s} {u} {p} {q} {c} {o} play e =
+    ⊎-elim (λ (n : Refuses s u p q c o). absurd (n .some (n .why ∙ e))) (λ (a : Goes s u p q c o). a) (play .card)
 
-pub jobs-answered : {u : World} {js : List Job} → Passes u js → (q : Queue) → Holds u q → answers u js ≡ replies q (map wanted js)
+pub jobs-answered : {s : Sizes} {u : World} {js : List Job} → Passes u js → (q : Queue) → Holds s u Nothing q
+    → answers u js ≡ replies q (map wanted js)
 unfolding answers replies
 jobs-answered none q h = refl
-jobs-answered {u} (more {j = job {w} asked lent words} {js = js} b f rest) q h =
-    let begun = passed (plays u q h (begin asked lent)) b in
+jobs-answered {s} {u} (more {j = job {w} asked lent words} {js = js} b f rest) q h =
+    let begun = passed (plays s u Nothing q h (begin asked lent)) b in
     let v = step u (begin asked lent) .world in
-    let done = passed (plays v q (begun .1) (finish words)) f in
-    let is : requestOf v (finish words) ≡ asks w = ap asks (waits-now u asked lent b) in
-    let now : says (step v (finish words) .answer) ≡ reply q (asks w) = done .0 .same ∙ ap (reply q) is in
-    let later = jobs-answered rest (next q (asks w)) (subst (λ (r : Request). Holds (step v (finish words) .world) (next q r)) is (done .1)) in
+    let done = passed (plays s v w q (begun .holds) (finish words)) f in
+    let now : says (step v (finish words) .answer) ≡ reply q (asks w) = done .answers .same in
+    let later = jobs-answered rest (next q (asks w)) (done .holds) in
     λ i. now i ∷ later i
 
 -- ---- insertions, then as many ExtractMins

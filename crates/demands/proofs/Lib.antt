@@ -1,11 +1,12 @@
 -- Laws of the demands that crates above cite.
+pub mod SortedLaws
 pub mod QueueLaws
 pub mod AnswerLaws
+pub mod RefusalsLaws
 pub mod StepLaws
 pub mod FinishLaws
 pub mod Demand2
 pub mod PromisedLaws
 pub mod Sample
-pub mod SortedLaws
 pub mod JobLaws
 pub mod StandsLaws

@@ -1,33 +1,37 @@
--- The contracts leave one outcome of each call, and it is the one of `step`. Assumes nothing.
-use Prim.Native.Nat.{ℕ}
-use mathlib.Core.Bool.{true, cond}
+-- The contracts leave one outcome of each call, and it is the one of `step`, which keeps them. Assumes nothing.
+use Prim.Native.Nat.{ℕ, zero, suc}
+use mathlib.Core.Bool.{true}
 use mathlib.Core.List.{List, [], _∷_}
 use mathlib.Core.Logic.{inl, inr}
-use mathlib.Core.Path.{_≡_, refl, sym, ap, _∙_}
+use mathlib.Core.Path.{_≡_, refl, sym, ap, _∙_, subst}
 use mathlib.Mathlib.Data.Bool.Basic.{dichotomy}
 use lib.Dec.{eqb}
 use lib.ListN.{length}
-use borrow.Author.Tests.{eqb-true, eq-eqb, ne-eqb}
+use borrow.Author.Tests.{eq-eqb, eqb-true, eqb-false}
 use Rattle.path.specs.declared.sizes.Sizes.{Sizes}
 use Rattle.path.specs.Sizes.{treeIn, inRange}
 use Rattle.path.specs.Layout.{treeWords, freshTree}
 use Rattle.lists.specs.BucketList.{laid}
-use Rattle.refusal.specs.Refusal.{firstGiven}
+use Rattle.refusal.specs.Refusal.{firstGiven, afterwards}
+use Rattle.refusal.proofs.RefusalLaws.{left-before, left-done, none, next, first-of, append-none}
 use Rattle.rack.specs.declared.Answer.{Answer as RackAnswer}
+use Rattle.rack.specs.declared.Answer.the-variants.{Done, BadSize, ShortRoom, BadBucket}
 use Rattle.rack.specs.Answers.{answerNumber, fillRefusal}
 use Rattle.rack.specs.Promises.{Fills}
 use Rattle.request.specs.declared.Waiting.{Waiting}
-use Rattle.card.specs.declared.Done.{Done}
-use Rattle.card.specs.Answers.{orRefused, numberOf, Answered}
-use Rattle.card.specs.Calls.{startTable, started, zeroCard, Begins, beginTable, begun, listOf}
-use Rattle.card.specs.Finish.{Finishes}
-use Rattle.demands.specs.World.{World, Call, Outcome, unless, alone, rackNumber, shown, finishNumber, wordsAfter, storedFrom}
-use Rattle.demands.specs.World.{finishing, step, outcomes}
-use Rattle.demands.specs.Promised.{Promised, by-begin, by-withdraw, by-min, by-refused, by-finish}
-use Rattle.demands.specs.Promised.{Carried, ended, called, holding, told, wholeCount, leastCount, FetchesHeld, StoresHeld}
+use Rattle.card.specs.declared.Card.{Card}
+use Rattle.card.specs.declared.Done.{Done as CardDone}
+use Rattle.answers.specs.Answers.{numberOf}
+use Rattle.card.specs.Answers.{orRefused, Answered}
+use Rattle.card.specs.Calls.{startTable, started, zeroCard, Begins, beginTable, begun, listOf, foundMin, withdrawn}
+use Rattle.card.specs.Finish.{finishTable, finished, Finishes}
+use Rattle.card.proofs.FinishLaws.{entry-numbered, entered}
+use Rattle.demands.specs.World.{World, Call, begin, finish, withdraw, findMin, Outcome, alone, rackNumber, shown, finishNumber, wordsAfter, storedFrom, finishing, step, outcomes}
+use Rattle.demands.specs.Promised.{Promised, by-begin, by-withdraw, by-min, by-refused, by-finish, Carried, ended, called, holding, told, wholeCount, leastCount, FetchesHeld, StoresHeld}
+use Rattle.demands.proofs.AnswerLaws.{finished-number}
 
 -- a call of the card alone
-alone-told : (u : World) (n : ℕ) (done d : Done) (list : List ℕ) (whole least : ℕ) → Answered (u .card) n done d
+alone-told : (u : World) (n : ℕ) (done d : CardDone) (list : List ℕ) (whole least : ℕ) → Answered (u .card) n done d
     → told u d list whole least ≡ alone u n done list whole least
 alone-told u n done d list whole least a =
     let number = a .numbered in
@@ -37,9 +41,9 @@ alone-told u n done d list whole least a =
       world = record {
         card = whole-answer i .card;
         tree = u .tree;
-        list = cond (eqb (number i) 0) list (u .list);
-        whole = cond (eqb (number i) 0) whole (u .whole);
-        least = cond (eqb (number i) 0) least (u .least);
+        list = afterwards (number i) list (u .list);
+        whole = afterwards (number i) whole (u .whole);
+        least = afterwards (number i) least (u .least);
       };
       answer = whole-answer i .answer;
       fetch = 0;
@@ -47,36 +51,27 @@ alone-told u n done d list whole least a =
     }
 
 -- the list does not matter where a number is given
-alone-agree : (u : World) (n : ℕ) (done : Done) (list list′ : List ℕ) (whole whole′ least least′ : ℕ) → (n ≡ 0 → list ≡ list′)
+alone-agree : (u : World) (n : ℕ) (done : CardDone) (list list′ : List ℕ) (whole whole′ least least′ : ℕ) → (n ≡ 0 → list ≡ list′)
     → (n ≡ 0 → whole ≡ whole′) → (n ≡ 0 → least ≡ least′) → alone u n done list whole least ≡ alone u n done list′ whole′ least′
-alone-agree u n done list list′ whole whole′ least least′ p q r = elim (dichotomy (eqb n 0)) [
-  | inl f ↦ rw f
-  | inr t ↦
-      let e = eqb-true n 0 t in
-      let pe = p e in
-      let qe = q e in
-      let re = r e in
-      λ i. alone u n done (pe i) (qe i) (re i)
-]
+alone-agree u zero done list list′ whole whole′ least least′ p q r =
+    let pe = p refl in
+    let qe = q refl in
+    let re = r refl in
+    λ i. alone u 0 done (pe i) (qe i) (re i)
+alone-agree u (suc n) done list list′ whole whole′ least least′ p q r = refl
 
-begin-told : (u : World) (w : Waiting) (lent after : List ℕ) (d : Done) → Begins (u .card) w lent after d
+begin-told : (u : World) (w : Waiting) (lent after : List ℕ) (d : CardDone) → Begins (u .card) w lent after d
     → told u d after (wholeCount u d) (leastCount u d) ≡ alone u (firstGiven (beginTable (u .card) w (length lent))) (begun (u .card) w)
     (laid (listOf (u .card) w) lent) (length (listOf (u .card) w .whole)) (length (listOf (u .card) w .least))
 unfolding orRefused
 begin-told u w lent after d b =
     let n = firstGiven (beginTable (u .card) w (length lent)) in
-    let is : n ≡ 0 → d ≡ begun (u .card) w = λ e. b .call .whole ∙ rw (eq-eqb n 0 e) in
+    let is : n ≡ 0 → d ≡ begun (u .card) w = λ e. b .call .whole ∙ left-done n _ _ e in
     alone-told u n (begun (u .card) w) d after (wholeCount u d) (leastCount u d) (b .call)
     ∙ alone-agree u n (begun (u .card) w) after _ (wholeCount u d) _ (leastCount u d) _
-    (λ e. b .places ∙ rw (eq-eqb n 0 e)) (λ e. ap (wholeCount u) (is e)) (λ e. ap (leastCount u) (is e))
+    (λ e. b .places ∙ left-done n _ _ e) (λ e. ap (wholeCount u) (is e)) (λ e. ap (leastCount u) (is e))
 
-unless-yes : {A : Type 0} (n : ℕ) (x y : A) → n ≡ 0 → x ≡ unless n x y
-unless-yes n x y e = rw (eq-eqb n 0 e)
-
-unless-no : {A : Type 0} (n : ℕ) (x y : A) → (n ≡ 0 → ⊥) → y ≡ unless n x y
-unless-no n x y e = rw (ne-eqb n 0 e)
-
-module _ (u : World) (words ws after : List ℕ) (a : RackAnswer) (d : Done) (f : FetchesHeld u words a ws) (g : Finishes (u .card) ws after d) where
+module _ (u : World) (words ws after : List ℕ) (a : RackAnswer) (d : CardDone) (f : FetchesHeld u words a ws) (g : Finishes (u .card) ws after d) where
   fetched-so : finishing u (answerNumber a) ws ≡ finishing u (rackNumber u words) (shown u words)
   fetched-so =
       let number = f .number in
@@ -89,16 +84,16 @@ module _ (u : World) (words ws after : List ℕ) (a : RackAnswer) (d : Done) (f 
       let number = g .call .numbered in
       let answer = g .call .whole in
       let given : finishNumber u ws ≡ 0 → ⊥ = λ e. some (number ∙ e) in
-      let tree = unless-no (finishNumber u ws) (storedFrom u (wordsAfter u ws)) (u .tree) given in
-      let store = unless-no (finishNumber u ws) (rackNumber u (wordsAfter u ws)) 0 given in
+      let tree = sym (left-before (finishNumber u ws) (storedFrom u (wordsAfter u ws)) (u .tree) given) in
+      let store = sym (left-before (finishNumber u ws) (rackNumber u (wordsAfter u ws)) 0 given) in
       λ i.
       record {
         world = record {
           card = answer i .card;
           tree = tree i;
-          list = unless (number i) [] (u .list);
-          whole = unless (number i) 0 (u .whole);
-          least = unless (number i) 0 (u .least);
+          list = afterwards (number i) [] (u .list);
+          whole = afterwards (number i) 0 (u .whole);
+          least = afterwards (number i) 0 (u .least);
         };
         answer = answer i .answer;
         fetch = answerNumber a;
@@ -112,15 +107,15 @@ module _ (u : World) (words ws after : List ℕ) (a : RackAnswer) (d : Done) (f 
         fetch = answerNumber a;
         store = answerNumber b;
       } ≡ finishing u (answerNumber a) ws
-  done-so zero tree b s =
+  done-so well tree b s =
       let n = finishNumber u ws in
       let answer = g .call .whole in
-      let none = sym (g .call .numbered) ∙ zero in
-      let trees = s .lent ∙ ap (storedFrom u) (g .words) ∙ unless-yes n (storedFrom u (wordsAfter u ws)) (u .tree) none in
-      let stores = s .number ∙ ap (rackNumber u) (g .words) ∙ unless-yes n (rackNumber u (wordsAfter u ws)) 0 none in
-      let lists = unless-yes n [] (u .list) none in
-      let wholes = unless-yes n 0 (u .whole) none in
-      let leasts = unless-yes n 0 (u .least) none in
+      let none = sym (g .call .numbered) ∙ well in
+      let trees = s .lent ∙ ap (storedFrom u) (g .words) ∙ sym (left-done n (storedFrom u (wordsAfter u ws)) (u .tree) none) in
+      let stores = s .number ∙ ap (rackNumber u) (g .words) ∙ sym (left-done n (rackNumber u (wordsAfter u ws)) 0 none) in
+      let lists = sym (left-done n [] (u .list) none) in
+      let wholes = sym (left-done n 0 (u .whole) none) in
+      let leasts = sym (left-done n 0 (u .least) none) in
       λ i.
       record {
         world = record { card = answer i .card; tree = trees i; list = lists i; whole = wholes i; least = leasts i };
@@ -148,8 +143,54 @@ carried-outcomes {u} (called {c} {o} {cs} {os} p rest) =
     let later = carried-outcomes rest in
     λ i. now i ∷ (later ∙ ap (λ (x : Outcome). outcomes (x .world) cs) now) i
 
+-- ---- the contracts can be kept: the steps are what they promise
+answered-so : (k : Card) (n : ℕ) (done : CardDone) → (n ≡ 0 → numberOf (done .answer) ≡ 0) → Answered k n done (orRefused k n done)
+unfolding orRefused
+answered-so k zero done e = record { whole = refl; numbered = e refl; valued = refl }
+answered-so k (suc n) done e = record { whole = refl; numbered = refl; valued = refl }
+
+-- the rack has an answer for each of its numbers
+copy-answer : (u : World) (words : List ℕ) → (a : RackAnswer) × (answerNumber a ≡ rackNumber u words)
+copy-answer u words =
+    first-of {P = λ n. (a : RackAnswer) × (answerNumber a ≡ n)} (Done, refl)
+    (next 1 (BadSize, refl) (next 11 (ShortRoom, refl) (next 11 (ShortRoom, refl) (next 11 (ShortRoom, refl) (next 14 (BadBucket, refl) none)))))
+
+finish-done : (k : Card) (ws : List ℕ) → firstGiven (finishTable k ws) ≡ 0 → numberOf (finished k ws .answer) ≡ 0
+finish-done k ws e =
+    finished-number k (k .waiting) _ (entered k (length ws) (append-none _ (entry-numbered k (length ws)) e .0) .busy)
+
+kept : {u : World} {c : Call} {o : Outcome} → Promised u c o → Promised u c (step u c)
+kept {u} {c} p = subst (Promised u c) (promised-step p) p
+
+finish-promised : (u : World) (words : List ℕ) → Promised u (finish words) (step u (finish words))
+finish-promised u words =
+    let ws = shown u words in
+    let after = wordsAfter u ws in
+    let d = orRefused (u .card) (finishNumber u ws) (finished (u .card) ws) in
+    let (a, fetch) = copy-answer u words in
+    let (b, store) = copy-answer u after in
+    let f : FetchesHeld u words a ws = record { number = fetch; lent = refl } in
+    let g : Finishes (u .card) ws after d =
+    record { call = answered-so (u .card) (finishNumber u ws) (finished (u .card) ws) (finish-done (u .card) ws); words = refl } in
+    elim (dichotomy (eqb (numberOf (d .answer)) 0)) [
+      | inl n ↦ kept (by-refused words ws after a d f g (eqb-false _ _ n))
+      | inr n ↦ kept (by-finish words ws after (storedFrom u after) a b d f g (eqb-true _ _ n) (record { number = store; lent = refl }))
+    ]
+
+pub step-promised : (u : World) (c : Call) → Promised u c (step u c)
+step-promised u (begin {w} asked lent) =
+    kept (by-begin asked lent _ _ (record { call = answered-so (u .card) _ (begun (u .card) w) (λ e. refl); places = refl }))
+step-promised u (finish words) = finish-promised u words
+step-promised u withdraw = kept (by-withdraw _ (answered-so (u .card) _ (withdrawn (u .card)) (λ e. refl)))
+step-promised u findMin = kept (by-min _ (answered-so (u .card) _ (foundMin (u .card)) (λ e. refl)))
+
+pub outcomes-carried : (u : World) (cs : List Call) → Carried u cs (outcomes u cs)
+unfolding outcomes
+outcomes-carried u [] = ended
+outcomes-carried u (c ∷ cs) = called (step-promised u c) (outcomes-carried (step u c .world) cs)
+
 -- ---- the world that start and fill promise is the fresh one
-pub start-fresh : (s : Sizes) → inRange s ≡ true → (d : Done) → Answered zeroCard (firstGiven (startTable s)) (started s) d → d ≡ started s
+pub start-fresh : (s : Sizes) → inRange s ≡ true → (d : CardDone) → Answered zeroCard (firstGiven (startTable s)) (started s) d → d ≡ started s
 unfolding orRefused startTable firstGiven
 start-fresh s ok d a = rw ok at (a .whole)
 

@@ -1,6 +1,6 @@
 -- The plain queue and the live records: the first of the least keys is the smallest record, since stamps rise in the order of
 -- insertion, and what a reference names in the queue is what label and stamp name among the records. Assumes nothing.
-use Prim.Native.Nat.{ℕ, suc, _<_, _≤_}
+use Prim.Native.Nat.{ℕ, suc, _<_}
 use mathlib.Core.Bool.{Bool, true, false, cond}
 use mathlib.Core.List.{List, [], _∷_, map, List·Memᴰ, List·Memᴰ·head, List·Memᴰ·tail}
 use mathlib.Core.Logic.{_⊎_, inl, inr, ⊎-elim}
@@ -26,6 +26,7 @@ use Rattle.good.proofs.FitLaws.{at-place}
 use Rattle.good.proofs.PickLaws.{named-is}
 use Rattle.demands.specs.Queue.{Event, Reference, refersTo, leastEvent, sooner, has, takenOut}
 use Rattle.demands.specs.Says.{refOf, eventOf}
+use Rattle.demands.proofs.SortedLaws.{has-own, has-other, out-own, out-other, out-none}
 
 -- ---- the least
 -- records go by key and then stamp, events by key alone (`order-by-key`)
@@ -93,14 +94,6 @@ module _ (label : Leaf) (stamp : Stamp) where
   unfolding named
   named-refers x e = rw e
 
-  has-here : (x : Record) (es : List Event) → refersTo r (eventOf x) ≡ true → has r (eventOf x ∷ es) ≡ true
-  unfolding has
-  has-here x es e = rw e
-
-  has-later : (x : Record) (es : List Event) → refersTo r (eventOf x) ≡ false → has r (eventOf x ∷ es) ≡ has r es
-  unfolding has
-  has-later x es e = rw e
-
   has-none : has r [] ≡ false
   unfolding has
   has-none = refl
@@ -111,21 +104,9 @@ module _ (label : Leaf) (stamp : Stamp) where
   has-found (x ∷ xs) k =
       let same = named-refers x (k x (List·Memᴰ·head refl)) in
       elim (dichotomy (refersTo r (eventOf x))) [
-        | inr t ↦ has-here x (map eventOf xs) t ∙ sym (found-here (named label stamp) x xs (same ∙ t))
-        | inl n ↦ has-later x (map eventOf xs) n ∙ has-found xs (λ y i. k y (List·Memᴰ·tail i)) ∙ sym (found-later (named label stamp) x xs (same ∙ n))
+        | inr t ↦ has-own r (eventOf x) (map eventOf xs) t ∙ sym (found-here (named label stamp) x xs (same ∙ t))
+        | inl n ↦ has-other r (eventOf x) (map eventOf xs) n ∙ has-found xs (λ y i. k y (List·Memᴰ·tail i)) ∙ sym (found-later (named label stamp) x xs (same ∙ n))
       ]
-
-  out-here : (x : Record) (es : List Event) → refersTo r (eventOf x) ≡ true → takenOut r (eventOf x ∷ es) ≡ es
-  unfolding takenOut
-  out-here x es e = rw e
-
-  out-later : (x : Record) (es : List Event) → refersTo r (eventOf x) ≡ false → takenOut r (eventOf x ∷ es) ≡ eventOf x ∷ takenOut r es
-  unfolding takenOut
-  out-later x es e = rw e
-
-  out-none : takenOut r [] ≡ []
-  unfolding takenOut
-  out-none = refl
 
   without-here : (x : Record) (xs : List Record) → x .stamp .0 ≡ stamp .0 → without stamp (x ∷ xs) ≡ xs
   unfolding without
@@ -148,22 +129,22 @@ module _ (label : Leaf) (stamp : Stamp) where
 
   -- and it is the one that goes
   pub taken-out : (xs : List Record) → Real xs → Ascending xs → takenOut r (map eventOf xs) ≡ map eventOf (after xs)
-  taken-out [] k a = out-none ∙ sym (rw (found-none (named label stamp)))
+  taken-out [] k a = out-none r ∙ sym (rw (found-none (named label stamp)))
   taken-out (x ∷ xs) k (more before rest) =
       let same = named-refers x (k x (List·Memᴰ·head refl)) in
       let below = taken-out xs (λ y i. k y (List·Memᴰ·tail i)) rest in
       elim (dichotomy (refersTo r (eventOf x))) [
         | inr t ↦
             rw (found-here (named label stamp) x xs (same ∙ t), without-here x xs (named-is label stamp x (same ∙ t) .2))
-            (out-here x (map eventOf xs) t)
+            (out-own r (eventOf x) (map eventOf xs) t)
         | inl n ↦ elim (dichotomy (found (named label stamp) xs)) [
           | inr f ↦
               let there = found-in xs f in
               let earlier = before (there .0) (there .1) in
               rw (found-later (named label stamp) x xs (same ∙ n), f, without-later x xs (λ e. omega (arith, earlier, there .2, e)))
-              (out-later x (map eventOf xs) n ∙ ap (λ (es : List Event). eventOf x ∷ es) (rw f at below))
+              (out-other r (eventOf x) (map eventOf xs) n ∙ ap (λ (es : List Event). eventOf x ∷ es) (rw f at below))
           | inl g ↦
               rw (found-later (named label stamp) x xs (same ∙ n), g)
-              (out-later x (map eventOf xs) n ∙ ap (λ (es : List Event). eventOf x ∷ es) (rw g at below))
+              (out-other r (eventOf x) (map eventOf xs) n ∙ ap (λ (es : List Event). eventOf x ∷ es) (rw g at below))
         ]
       ]

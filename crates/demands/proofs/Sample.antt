@@ -6,16 +6,15 @@ use mathlib.Core.List.{List, [], _∷_, map, flatMap}
 use mathlib.Core.Path.{_≡_, refl}
 use native.Mathlib.Omega.{arith}
 use lib.ListN.{replicate}
-use Rattle.record.specs.Standing.{dummyKey}
+use Rattle.record.specs.Standing.{dummyKey, same, isDummy, known, isProper, mayStand}
 use Rattle.request.specs.declared.Waiting.{Waiting}
-use Rattle.demands.specs.World.{Asked}
+use Rattle.demands.specs.World.{Asked, freshWorld, insert, extract, delete, Call, begin, finish, withdraw, findMin, Outcome, step, outcomes}
 use Rattle.record.specs.Many.{every, reals, bears, stampTwice}
 use Rattle.record.specs.Order.{noLater, smallerBy, smallestBy}
-use Rattle.record.specs.Standing.{same, isDummy, known, isProper, mayStand}
 use Rattle.record.specs.Words.{records, wordsOf}
 use Rattle.lists.specs.BucketList.{pairList, pathList, sum, wordsMoved}
 use Rattle.path.specs.Path.{pathBucket, holds, siblingOf, upFrom, path}
-use Rattle.path.specs.Sizes.{between, treeIn, inRange}
+use Rattle.path.specs.Sizes.{between, treeIn, inRange, sizesOf}
 use Rattle.refusal.specs.Refusal.{firstGiven}
 use Rattle.root.specs.Root.{strangeSlot, usedPast, stampShared, rootRecords, greaterThanSome, rootFull}
 use Rattle.judge.specs.BadParts.{oddLeast, badParts}
@@ -37,10 +36,8 @@ use Rattle.card.specs.BadCard.{badCard}
 use Rattle.card.specs.Calls.{listOf, beginTable, minTable, withdrawTable}
 use Rattle.card.specs.Finish.{leftBy, damagedBy, entryTable, finishedBy}
 use Rattle.request.specs.Tables.{insertRows, extractRows, deleteRows, requestRows, waits}
-use Rattle.path.specs.Sizes.{sizesOf}
 use Rattle.record.specs.declared.Leaf.{Leaf}
-use Rattle.card.specs.Answers.{numberOf, valuesOf}
-use Rattle.demands.specs.World.{freshWorld, insert, extract, delete, Call, begin, finish, withdraw, findMin, Outcome, step, outcomes}
+use Rattle.answers.specs.Answers.{numberOf, valuesOf}
 
 -- ---- the paper's lines as calls, with lists and words that are more than long enough
 abbrev leaf : ℕ → Leaf

@@ -28,7 +28,7 @@ module _ (r : Reference) (x : Event) where
 
 -- one event more in front
 module _ (r : Reference) (x : Event) (es : List Event) where
-  has-own : refersTo r x ≡ true → has r (x ∷ es) ≡ true
+  pub has-own : refersTo r x ≡ true → has r (x ∷ es) ≡ true
   unfolding has
   has-own e = rw e
 
@@ -44,7 +44,7 @@ module _ (r : Reference) (x : Event) (es : List Event) where
   unfolding takenOut
   out-other e = rw e
 
-out-none : (r : Reference) → takenOut r [] ≡ []
+pub out-none : (r : Reference) → takenOut r [] ≡ []
 unfolding takenOut
 out-none r = refl
 

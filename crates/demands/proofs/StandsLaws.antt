@@ -9,6 +9,8 @@ use Rattle.record.specs.declared.Bucket.{Bucket}
 use Rattle.record.specs.declared.Record.{Record}
 use Rattle.record.specs.Standing.{dummy, isDummy}
 use Rattle.record.proofs.StandingLaws.{is-dummy}
+use Rattle.path.specs.declared.sizes.Sizes.{Sizes}
+use Rattle.request.specs.declared.Waiting.{Waiting}
 use Rattle.judge.specs.BadParts.{stampOf}
 use Rattle.tree.specs.Path.{OnPath}
 use Rattle.good.specs.Good.{Good}
@@ -30,7 +32,7 @@ event-one x y e =
     let stamp = ap (λ (a : Event). a .ref .stamp) e in
     λ i. record { key = key i; value = value i; label = record { 0 = label i }; stamp = record { 0 = stamp i } }
 
-module _ (u : World) (q : Queue) (s : Stands u q) where
+module _ (z : Sizes) (u : World) (p : Waiting) (q : Queue) (s : Stands z u p q) where
   abbrev live : List Record
   live = s .live
 

@@ -1,5 +1,7 @@
--- Demand 2, over the definitions that the contracts of `card` and `rack` cite: every list of calls, from a fresh card and a
--- filled tree, is answered as the plain queue answers it. Proved as `demand2` in proofs/Demand2.antt. Assumes nothing.
+-- Demand 2, of whatever the contracts of `card` and `rack` promise: every list of calls, from a fresh card and a filled tree, is
+-- answered as the plain queue answers it, if the rack is honest (`HonestRack`). Proved as `demand2` in proofs/Demand2.antt.
+-- What a run is judged by is worked out from the sizes and the calls alone, never from the card: the pending request p and the
+-- queue q. Only Overflow asks the card, for its root's slots. Assumes nothing.
 use Prim.Native.Nat.{ℕ, _<_}
 use mathlib.Core.Bool.{true}
 use mathlib.Core.List.{List, [], _∷_, map}
@@ -9,58 +11,76 @@ use lib.ListN.{length}
 use Rattle.record.specs.declared.Record.{Record}
 use Rattle.path.specs.declared.sizes.Sizes.{Sizes}
 use Rattle.path.specs.Sizes.{inRange}
-use Rattle.rack.specs.Answers.{wordsFor}
-use Rattle.card.specs.declared.Answer.the-variants.{Refused}
-use Rattle.card.specs.Answers.{numberOf}
+use Rattle.request.specs.declared.Waiting.{Waiting}
+use Rattle.request.specs.declared.Waiting.the-variants.{Nothing}
+use Rattle.answers.specs.declared.Answer.the-variants.{Refused}
+use Rattle.answers.specs.Answers.{numberOf}
 use Rattle.served.specs.Ready.{Ready}
-use Rattle.demands.specs.Queue.{Queue, Request, emptyQueue, reply, next}
-use Rattle.demands.specs.World.{World, freshWorld, Call, begin, finish, withdraw, findMin, Outcome, step}
-use Rattle.demands.specs.Says.{eventOf, requestOf, says}
+use Rattle.demands.specs.Queue.{Queue, emptyQueue, reply, next}
+use Rattle.demands.specs.World.{World, freshWorld, Call, begin, finish, withdraw, findMin, Outcome}
+use Rattle.demands.specs.Says.{eventOf, pendingAfter, requestOf, says}
+use Rattle.demands.specs.Refusals.{wordsToFetch, refusalOf}
+use Rattle.demands.specs.Promised.{Carried}
 
 -- ---- before and after every call
--- Card and tree hold a good heap (`Ready`, good/specs/Good.antt: each live event in exactly one slot, on the path of its label,
--- no slot with anything else but the dummy, every least record true, c the number of live events) of the queue's events.
-pub record Stands (u : World) (q : Queue) : Type 0 where
+-- The card has the sizes that it was started with, and the pending request waits on it. Card and tree hold a good heap (`Ready`,
+-- served/specs/Ready.antt: each live event in exactly one slot, on the path of its label, no slot with anything else but the
+-- dummy, every least record true, c the number of live events) of the queue's events.
+pub record Stands (s : Sizes) (u : World) (p : Waiting) (q : Queue) : Type 0 where
+  pub sizes : u .card .sizes ≡ s
+  pub waiting : u .card .waiting ≡ p
   pub live : List Record
   pub ready : Ready (u .card) (u .tree) live
   pub events : map eventOf live ≡ q .events
   pub taken : u .card .t ≡ q .taken
 
 -- ---- one call
--- a refused call leaves all as it was, and its number is neither 12 nor 13
-pub record Refuses (u : World) (o : Outcome) : Type 0 where
-  pub number : ℕ
-  pub given : o .answer ≡ Refused number
-  pub some : number ≡ 0 → ⊥
-  pub unchanged : o .world ≡ u
-  pub notDamaged : number ≡ 12 → ⊥
-  pub notBadCard : number ≡ 13 → ⊥
+module _ (s : Sizes) (u : World) (p : Waiting) (q : Queue) (c : Call) (o : Outcome) where
+  -- A refused call has the number that queue and pending request tell, so neither 12 nor 13, and leaves all as it was.
+  pub record Refuses : Type 0 where
+    pub number : ℕ
+    pub given : o .answer ≡ Refused number
+    pub some : number ≡ 0 → ⊥
+    pub why : number ≡ refusalOf s (u .card .root) p q c
+    pub unchanged : o .world ≡ u
+    pub notDamaged : number ≡ 12 → ⊥
+    pub notBadCard : number ≡ 13 → ⊥
 
--- any other answers as the queue
-pub record Answers (q : Queue) (r : Request) (o : Outcome) : Type 0 where
-  pub passes : numberOf (o .answer) ≡ 0
-  pub same : says (o .answer) ≡ reply q r
+  -- Any other is one that they do not refuse, and answers as the queue.
+  pub record Answers : Type 0 where
+    pub passes : numberOf (o .answer) ≡ 0
+    pub why : refusalOf s (u .card .root) p q c ≡ 0
+    pub same : says (o .answer) ≡ reply q (requestOf p c)
 
--- the words lent to a finish are fewer than the list that is held asks for
-abbrev pub TooFew : World → Call → Type 0
-TooFew u (begin asked places) = ⊥
-TooFew u (finish words) = length words < wordsFor (u .card .sizes .z) (u .whole) (u .least)
-TooFew u withdraw = ⊥
-TooFew u findMin = ⊥
+-- the words lent to a finish are fewer than the pending request needs
+abbrev pub TooFew : Sizes → Waiting → Call → Type 0
+TooFew s p (begin asked places) = ⊥
+TooFew s p (finish words) = length words < wordsToFetch s p
+TooFew s p withdraw = ⊥
+TooFew s p findMin = ⊥
 
 -- the rack refuses neither with 1 nor with 14, and with 11 for too few words alone
-pub record RackPasses (u : World) (c : Call) (o : Outcome) : Type 0 where
-  pub fetch : (o .fetch ≡ 0) ⊎ ((o .fetch ≡ 11) × TooFew u c)
+pub record RackPasses (s : Sizes) (p : Waiting) (c : Call) (o : Outcome) : Type 0 where
+  pub fetch : (o .fetch ≡ 0) ⊎ ((o .fetch ≡ 11) × TooFew s p c)
   pub store : o .store ≡ 0
 
--- ---- every list of calls, one after the other
-pub data Run : World → Queue → List Call → Type 0 where
-  ended : {u : World} {q : Queue} → Stands u q → Run u q []
-  refused : {u : World} {q : Queue} {c : Call} {cs : List Call} → Stands u q → RackPasses u c (step u c) → Refuses u (step u c)
-      → Run u q cs → Run u q (c ∷ cs)
-  answered : {u : World} {q : Queue} {c : Call} {cs : List Call} → Stands u q → RackPasses u c (step u c)
-      → Answers q (requestOf u c) (step u c) → Run (step u c .world) (next q (requestOf u c)) cs → Run u q (c ∷ cs)
+-- ---- every list of calls, one after the other, with what comes of each
+pub data Run (s : Sizes) : World → Waiting → Queue → List Call → List Outcome → Type 0 where
+  ended : {u : World} {p : Waiting} {q : Queue} → Stands s u p q → Run s u p q [] []
+  refused : {u : World} {p : Waiting} {q : Queue} {c : Call} {o : Outcome} {cs : List Call} {os : List Outcome} → Stands s u p q
+      → RackPasses s p c o → Refuses s u p q c o → Run s (o .world) p q cs os → Run s u p q (c ∷ cs) (o ∷ os)
+  answered : {u : World} {p : Waiting} {q : Queue} {c : Call} {o : Outcome} {cs : List Call} {os : List Outcome} → Stands s u p q
+      → RackPasses s p c o → Answers s u p q c o → Run s (o .world) (pendingAfter p c) (next q (requestOf p c)) cs os
+      → Run s u p q (c ∷ cs) (o ∷ os)
+
+-- The premise that the rack is honest, for "An older true copy of the tree can't be told apart": what comes of each call is what the
+-- contracts promise on the world that the call before it left (`Carried`, Promised.antt). So each fetch reads the tree that the last
+-- store left, and "this store is done before the next begin". The steps of World.antt keep it (`outcomes-carried`).
+abbrev pub HonestRack : Sizes → List Call → List Outcome → Type 0
+HonestRack s cs os = Carried (freshWorld s) cs os
 
 -- Overflow ends nothing: it is refused like any other, and the run goes on.
 abbrev pub Demand2 : Type 0
-Demand2 = (s : Sizes) → inRange s ≡ true → (cs : List Call) → Run (freshWorld s) emptyQueue cs
+Demand2 =
+    (s : Sizes) → inRange s ≡ true → (cs : List Call) (os : List Outcome) → HonestRack s cs os
+    → Run s (freshWorld s) Nothing emptyQueue cs os

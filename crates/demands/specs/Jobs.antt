@@ -3,7 +3,7 @@ use Prim.Native.Nat.{ℕ, suc}
 use mathlib.Core.List.{List, [], _∷_}
 use mathlib.Core.Path.{_≡_}
 use Rattle.request.specs.declared.Waiting.{Waiting}
-use Rattle.card.specs.Answers.{numberOf}
+use Rattle.answers.specs.Answers.{numberOf}
 use Rattle.demands.specs.Queue.{Event, Queue, Request, Reply, insert, reply, next}
 use Rattle.demands.specs.World.{World, Asked, begin, finish, Outcome, step}
 use Rattle.demands.specs.Says.{asks, says}

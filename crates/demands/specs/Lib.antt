@@ -2,6 +2,7 @@
 pub mod Queue
 pub mod World
 pub mod Says
+pub mod Refusals
 pub mod Sorted
 pub mod Jobs
 pub mod Promised

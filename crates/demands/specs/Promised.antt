@@ -1,19 +1,20 @@
--- What the contracts of `card` and `rack` promise of one call, whatever code carries it out, and what a driver then holds.
--- By proofs/PromisedLaws.antt it is the outcome that `step` gives, so demand 2 speaks of the code. Assumes nothing.
+-- What the contracts of `card` and `rack` promise of one call, whatever code carries it out, and what a driver then holds; demand 2
+-- is stated of it. By proofs/PromisedLaws.antt it is the outcome that `step` gives, and no other. Assumes nothing.
 use Prim.Native.Nat.{ℕ}
 use mathlib.Core.List.{List, [], _∷_}
 use mathlib.Core.Path.{_≡_}
 use lib.ListN.{getD}
-use Rattle.refusal.specs.Refusal.{firstGiven}
+use Rattle.refusal.specs.Refusal.{firstGiven, afterwards}
 use Rattle.rack.specs.declared.Answer.{Answer as RackAnswer}
 use Rattle.rack.specs.Answers.{answerNumber}
 use Rattle.rack.specs.Promises.{Fetches, Stores}
 use Rattle.request.specs.declared.Waiting.{Waiting}
 use Rattle.card.specs.declared.Done.{Done}
-use Rattle.card.specs.Answers.{numberOf, valuesOf, Answered}
+use Rattle.answers.specs.Answers.{numberOf, valuesOf}
+use Rattle.card.specs.Answers.{Answered}
 use Rattle.card.specs.Calls.{Begins, minTable, foundMin, withdrawTable, withdrawn}
 use Rattle.card.specs.Finish.{Finishes}
-use Rattle.demands.specs.World.{World, Asked, Call, begin, finish, withdraw, findMin, Outcome, unless}
+use Rattle.demands.specs.World.{World, Asked, Call, begin, finish, withdraw, findMin, Outcome}
 
 module _ (u : World) where
   -- the world with the card that came out, and this list where nothing is refused
@@ -22,9 +23,9 @@ module _ (u : World) where
       record {
         card = d .card;
         tree = u .tree;
-        list = unless (numberOf (d .answer)) list (u .list);
-        whole = unless (numberOf (d .answer)) whole (u .whole);
-        least = unless (numberOf (d .answer)) least (u .least);
+        list = afterwards (numberOf (d .answer)) list (u .list);
+        whole = afterwards (numberOf (d .answer)) whole (u .whole);
+        least = afterwards (numberOf (d .answer)) least (u .least);
       }
 
   -- a call of the card alone

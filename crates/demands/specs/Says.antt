@@ -5,11 +5,10 @@ use Rattle.record.specs.declared.Stamp.{Stamp}
 use Rattle.record.specs.declared.Record.{Record}
 use Rattle.request.specs.declared.Waiting.{Waiting}
 use Rattle.request.specs.declared.Waiting.the-variants.{Nothing, Insert, Extract, Delete}
-use Rattle.card.specs.declared.Answer.{Answer}
-use Rattle.card.specs.declared.Answer.the-variants.{Started, Listed, Least, Withdrawn, Inserted, Extracted, Deleted, Refused}
-use Rattle.demands.specs.Queue.{Reference, Event, Request, insert, extractMin, delete, nothing, findMin as findLeast}
-use Rattle.demands.specs.Queue.{Reply, referred, told, wasFound, silent}
-use Rattle.demands.specs.World.{World, Call, begin, finish, withdraw, findMin}
+use Rattle.answers.specs.declared.Answer.{Answer}
+use Rattle.answers.specs.declared.Answer.the-variants.{Started, Listed, Least, Withdrawn, Inserted, Extracted, Deleted, Refused}
+use Rattle.demands.specs.Queue.{Reference, Event, Request, insert, extractMin, delete, nothing, findMin as findLeast, Reply, referred, told, wasFound, silent}
+use Rattle.demands.specs.World.{Call, begin, finish, withdraw, findMin}
 
 abbrev pub refOf : Leaf → Stamp → Reference
 refOf label stamp = record { label = label .0; stamp = stamp .0 }
@@ -24,18 +23,26 @@ asks (Insert key value label first second) = insert key value (label .0)
 asks Extract = extractMin
 asks (Delete label stamp) = delete (refOf label stamp)
 
--- a begin and a withdraw ask nothing of the queue
-abbrev pub requestOf : World → Call → Request
-requestOf u (begin asked places) = nothing
-requestOf u (finish words) = asks (u .card .waiting)
-requestOf u withdraw = nothing
-requestOf u findMin = findLeast
+-- The pending request, told by the calls alone: the one that was begun and is neither finished nor withdrawn. What a call that is
+-- answered makes of it.
+abbrev pub pendingAfter : Waiting → Call → Waiting
+pendingAfter p (begin {w} asked places) = w
+pendingAfter p (finish words) = Nothing
+pendingAfter p withdraw = Nothing
+pendingAfter p findMin = p
+
+-- what a call asks of the queue: a finish the pending request; a begin and a withdraw nothing
+abbrev pub requestOf : Waiting → Call → Request
+requestOf p (begin asked places) = nothing
+requestOf p (finish words) = asks p
+requestOf p withdraw = nothing
+requestOf p findMin = findLeast
 
 -- what an answer says, words moved and lists aside
 abbrev pub says : Answer → Reply
 says Started = silent
 says (Listed whole least) = silent
-says (Least r) = told (some (eventOf r))
+says (Least r words) = told (some (eventOf r))
 says Withdrawn = silent
 says (Inserted label stamp words) = referred (refOf label stamp)
 says (Extracted r words) = told (some (eventOf r))

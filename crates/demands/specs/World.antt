@@ -1,9 +1,7 @@
 -- The world of a run: card and rack, and what the driver holds between two calls; and what a call makes of it, by the
 -- definitions that the contracts of `card` and `rack` cite. Document 01, "A request, step by step". Assumes nothing.
 use Prim.Native.Nat.{ℕ, _≤_}
-use mathlib.Core.Bool.{cond}
 use mathlib.Core.List.{List, [], _∷_}
-use lib.Dec.{eqb}
 use lib.ListN.{length}
 use Rattle.record.specs.declared.Leaf.{Leaf}
 use Rattle.record.specs.declared.Stamp.{Stamp}
@@ -11,15 +9,14 @@ use Rattle.record.specs.Standing.{dummyKey}
 use Rattle.path.specs.declared.sizes.Sizes.{Sizes}
 use Rattle.path.specs.Layout.{freshTree}
 use Rattle.lists.specs.BucketList.{BucketList, laid}
-use Rattle.refusal.specs.Refusal.{firstGiven}
+use Rattle.refusal.specs.Refusal.{firstGiven, afterwards}
 use Rattle.settle.specs.Left.{wordsLeft}
-use Rattle.rack.specs.Refusals.{afterwards}
 use Rattle.rack.specs.Answers.{copyRefusal}
 use Rattle.copies.specs.Copy.{listed, fetched, stored}
 use Rattle.card.specs.declared.Card.{Card}
 use Rattle.request.specs.declared.Waiting.{Waiting}
 use Rattle.request.specs.declared.Waiting.the-variants.{Insert, Extract, Delete}
-use Rattle.card.specs.declared.Answer.{Answer}
+use Rattle.answers.specs.declared.Answer.{Answer}
 use Rattle.card.specs.declared.Done.{Done}
 use Rattle.card.specs.Answers.{orRefused}
 use Rattle.card.specs.Calls.{freshCard, listOf, beginTable, begun, minTable, foundMin, withdrawTable, withdrawn}
@@ -57,10 +54,6 @@ pub record Outcome : Type 0 where
   pub fetch : ℕ
   pub store : ℕ
 
--- "card and lent slices are as before" where a number is given
-abbrev pub unless : {A : Type 0} → ℕ → A → A → A
-unless n done before = cond (eqb n 0) done before
-
 module _ (u : World) where
   -- a call of the card alone: what it comes to, and the list that is held if it is not refused
   abbrev pub alone : ℕ → Done → List ℕ → ℕ → ℕ → Outcome
@@ -69,9 +62,9 @@ module _ (u : World) where
         world = record {
           card = orRefused (u .card) n done .card;
           tree = u .tree;
-          list = unless n list (u .list);
-          whole = unless n whole (u .whole);
-          least = unless n least (u .least);
+          list = afterwards n list (u .list);
+          whole = afterwards n whole (u .whole);
+          least = afterwards n least (u .least);
         };
         answer = orRefused (u .card) n done .answer;
         fetch = 0;
@@ -94,7 +87,7 @@ module _ (u : World) where
   finishNumber ws = firstGiven (finishTable (u .card) ws)
 
   abbrev pub wordsAfter : List ℕ → List ℕ
-  wordsAfter ws = unless (finishNumber ws) (wordsLeft (leftBy (u .card) (u .card .waiting) ws) ws) ws
+  wordsAfter ws = afterwards (finishNumber ws) (wordsLeft (leftBy (u .card) (u .card .waiting) ws) ws) ws
 
   abbrev pub storedFrom : List ℕ → List ℕ
   storedFrom ws = afterwards (rackNumber ws) (stored (u .card .sizes .z) (held .whole) ws (u .tree)) (u .tree)
@@ -104,14 +97,14 @@ module _ (u : World) where
       record {
         world = record {
           card = orRefused (u .card) (finishNumber ws) (finished (u .card) ws) .card;
-          tree = unless (finishNumber ws) (storedFrom (wordsAfter ws)) (u .tree);
-          list = unless (finishNumber ws) [] (u .list);
-          whole = unless (finishNumber ws) 0 (u .whole);
-          least = unless (finishNumber ws) 0 (u .least);
+          tree = afterwards (finishNumber ws) (storedFrom (wordsAfter ws)) (u .tree);
+          list = afterwards (finishNumber ws) [] (u .list);
+          whole = afterwards (finishNumber ws) 0 (u .whole);
+          least = afterwards (finishNumber ws) 0 (u .least);
         };
         answer = orRefused (u .card) (finishNumber ws) (finished (u .card) ws) .answer;
         fetch = fetch;
-        store = unless (finishNumber ws) (rackNumber (wordsAfter ws)) 0;
+        store = afterwards (finishNumber ws) (rackNumber (wordsAfter ws)) 0;
       }
 
   unfoldable pub step : Call → Outcome

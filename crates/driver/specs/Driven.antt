@@ -4,15 +4,17 @@ use mathlib.Core.List.{List, _∷_}
 use mathlib.Core.Path.{_≡_}
 use lib.ListN.{length}
 use Rattle.lists.specs.BucketList.{laid}
-use Rattle.refusal.specs.Refusal.{Refusal, row, firstGiven}
+use Rattle.refusal.specs.Refusal.{Refusal, row, firstGiven, afterwards}
 use Rattle.card.specs.declared.Card.{Card}
+use Rattle.card.specs.declared.Done.{Done}
 use Rattle.request.specs.declared.Waiting.{Waiting}
-use Rattle.card.specs.Calls.{listOf, beginTable, begun}
+use Rattle.answers.specs.Answers.{numberOf, valuesOf}
+use Rattle.card.specs.Calls.{listOf, beginTable, begun, minTable, foundMin}
 use Rattle.card.specs.Finish.{leftBy, finishTable, finished}
+use Rattle.image.specs.Image.{imageOf}
 use Rattle.image.specs.Reading.{cardIn, oddKind}
-use Rattle.rack.specs.Refusals.{afterwards}
 use Rattle.settle.specs.Left.{wordsLeft}
-use Rattle.told.specs.Told.{Called, Zeroed}
+use Rattle.told.specs.Told.{Said, Answering, Called, Zeroed}
 
 -- the number of a call on the card of some words: 13 for a kind above 3, then as the card's own table says
 abbrev pub onCard : List ℕ → (Card → List Refusal) → ℕ
@@ -22,9 +24,13 @@ onCard ws table = firstGiven (row 13 (oddKind ws) ∷ table (cardIn ws))
 abbrev pub beginNumber : Waiting → List ℕ → List ℕ → ℕ
 beginNumber w held list = onCard held (λ k. beginTable k w (length list))
 
-pub record BeginsAt (w : Waiting) (held told list : List ℕ) (n : ℕ) (held′ told′ list′ : List ℕ) : Type 0 where
-  pub call : Called (beginNumber w held list) (begun (cardIn held) w) held told n held′ told′
+pub record BeginsAt (w : Waiting) (held list : List ℕ) (n : ℕ) (held′ told′ list′ : List ℕ) : Type 0 where
+  pub call : Called (beginNumber w held list) (begun (cardIn held) w) held n held′ told′
   pub places : list′ ≡ afterwards (beginNumber w held list) (laid (listOf (cardIn held) w) list) list
+
+-- FindMin: "It leaves the card unchanged". Its words are lent to be read, so that the answer is all that it leaves.
+abbrev pub FindsMin : List ℕ → ℕ → List ℕ → Type 0
+FindsMin held = Answering (onCard held minTable) (foundMin (cardIn held) .answer)
 
 -- A finish of the request that waits: "each bucket's part of the fetched words is written where it stands; sibling words,
 -- and any words past the list, stay".
@@ -34,11 +40,16 @@ finishNumber held ws = onCard held (λ k. finishTable k ws)
 abbrev pub leftOn : Card → List ℕ → List ℕ
 leftOn k ws = wordsLeft (leftBy k (k .waiting) ws) ws
 
-pub record FinishesAt (held told before : List ℕ) (n : ℕ) (held′ told′ after : List ℕ) : Type 0 where
-  pub call : Called (finishNumber held before) (finished (cardIn held) before) held told n held′ told′
+pub record FinishesAt (held before : List ℕ) (n : ℕ) (held′ told′ after : List ℕ) : Type 0 where
+  pub call : Called (finishNumber held before) (finished (cardIn held) before) held n held′ told′
   pub words : after ≡ afterwards (finishNumber held before) (leftOn (cardIn held) before) before
 
 -- A call on a rack with this refusal, which writes what is due to the slice that was lent for it.
-pub record Racked (refusal : ℕ) (due told before : List ℕ) (n : ℕ) (told′ after : List ℕ) : Type 0 where
-  pub call : Zeroed refusal told n told′
+pub record Racked (refusal : ℕ) (due before : List ℕ) (n : ℕ) (told′ after : List ℕ) : Type 0 where
+  pub call : Zeroed refusal n told′
   pub lent : after ≡ afterwards refusal due before
+
+-- "and equals the first": what a call by value hands back is what stands where the driver lent it, refused or not.
+pub record EqualsFirst (d : Done) (n : ℕ) (held′ told′ : List ℕ) : Type 0 where
+  pub said : Said (numberOf (d .answer)) (valuesOf (d .answer)) n told′
+  pub card : held′ ≡ imageOf (d .card)

@@ -1,9 +1,10 @@
 // The entrance for drivers in C or Rust: every call of card and rack, on numbers and lent words. Document 01, "one thin
 // second entrance keeps the card where the driver lent it, and equals the first".
 //
-// The card is the 272 words of `image`. Each call returns the refusal's number, or 0, and fills an answer of six words. A
-// refused call leaves card, answer and every lent slice as they were. The header for C is nwidarap.h in this crate's
-// folder. Stands on `held`, `card`, `rack` and `told`.
+// The card is the words of `image`. Each call returns the refusal's number, or 0, and fills an answer of six words, all 0
+// for a refusal. A refused call leaves card and every lent slice as they were. The header for C is nwidarap.h in this crate's
+// folder. Stands on `record`, `path`, `lists`, `refusal`, `request`, `answers`, `settle`, `card`, `image`, `copies`, `rack`, `held`
+// and `told`.
 mod requests;
 mod store;
 

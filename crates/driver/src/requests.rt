@@ -1,26 +1,28 @@
 // The calls on a card: document 01, "A request, step by step". A kind above 3 is no card's and gives 13, which comes
 // first in every order but start's: a card that is bad takes its place, and the card's own call refuses that.
 ghost use Rattle.path.specs.Sizes.{sizesOf};
-ghost use Rattle.card.specs.Calls.{startTable, started, minTable, foundMin, withdrawTable, withdrawn};
+ghost use Rattle.card.specs.Calls.{startTable, started, withdrawTable, withdrawn};
 ghost use Rattle.image.specs.Reading.{cardIn};
 ghost use Rattle.refusal.specs.Refusal.{firstGiven};
-ghost use Rattle.driver.specs.Driven.{onCard, BeginsAt, FinishesAt};
+ghost use Rattle.driver.specs.Driven.{onCard, BeginsAt, FindsMin, FinishesAt};
 ghost use Rattle.told.specs.Told.{Called};
 use card::Card;
+use image::CARD_WORDS;
 use record::Leaf;
 use record::Stamp;
 use request::Waiting;
+use told::ANSWER_WORDS;
 
 #[no_mangle]
 pub extern "C" fn nwidarap_start(
-    card: &mut [u64; 272],
-    answer: &mut [u64; 6],
+    card: &mut [u64; CARD_WORDS],
+    answer: &mut [u64; ANSWER_WORDS],
     h: u64,
     z: u64,
     r: u64,
     t: u64,
 ) -> u64
-    ensures { λ n. ⌜ Called (firstGiven (startTable (sizesOf h z r t))) (started (sizesOf h z r t)) (now (card .entry)) (now (answer .entry)) n (now (card .exit)) (now (answer .exit)) ⌝ }
+    ensures { λ n. ⌜ Called (firstGiven (startTable (sizesOf h z r t))) (started (sizesOf h z r t)) (now (card .entry)) n (now (card .exit)) (now (answer .exit)) ⌝ }
 {
     let done = Card::start(h, z, r, t);
     told::settle(done, card, answer)
@@ -28,8 +30,8 @@ pub extern "C" fn nwidarap_start(
 
 #[no_mangle]
 pub extern "C" fn nwidarap_insert(
-    card: &mut [u64; 272],
-    answer: &mut [u64; 6],
+    card: &mut [u64; CARD_WORDS],
+    answer: &mut [u64; ANSWER_WORDS],
     key: u64,
     value: u64,
     label: u64,
@@ -37,7 +39,7 @@ pub extern "C" fn nwidarap_insert(
     second: u64,
     list: &mut [u64],
 ) -> u64
-    ensures { λ n. ⌜ BeginsAt (Waiting.Insert key value (record { 0 = label }) (record { 0 = first }) (record { 0 = second })) (now (card .entry)) (now (answer .entry)) (now (list .entry)) n (now (card .exit)) (now (answer .exit)) (now (list .exit)) ⌝ }
+    ensures { λ n. ⌜ BeginsAt (Waiting.Insert key value (record { 0 = label }) (record { 0 = first }) (record { 0 = second })) (now (card .entry)) (now (list .entry)) n (now (card .exit)) (now (answer .exit)) (now (list .exit)) ⌝ }
 {
     let taken = held::card_of(card);
     let done = taken.begin_insert(key, value, Leaf(label), Leaf(first), Leaf(second), list);
@@ -46,11 +48,11 @@ pub extern "C" fn nwidarap_insert(
 
 #[no_mangle]
 pub extern "C" fn nwidarap_extract(
-    card: &mut [u64; 272],
-    answer: &mut [u64; 6],
+    card: &mut [u64; CARD_WORDS],
+    answer: &mut [u64; ANSWER_WORDS],
     list: &mut [u64],
 ) -> u64
-    ensures { λ n. ⌜ BeginsAt Waiting.Extract (now (card .entry)) (now (answer .entry)) (now (list .entry)) n (now (card .exit)) (now (answer .exit)) (now (list .exit)) ⌝ }
+    ensures { λ n. ⌜ BeginsAt Waiting.Extract (now (card .entry)) (now (list .entry)) n (now (card .exit)) (now (answer .exit)) (now (list .exit)) ⌝ }
 {
     let taken = held::card_of(card);
     let done = taken.begin_extract(list);
@@ -59,31 +61,39 @@ pub extern "C" fn nwidarap_extract(
 
 #[no_mangle]
 pub extern "C" fn nwidarap_delete(
-    card: &mut [u64; 272],
-    answer: &mut [u64; 6],
+    card: &mut [u64; CARD_WORDS],
+    answer: &mut [u64; ANSWER_WORDS],
     label: u64,
     stamp: u64,
     list: &mut [u64],
 ) -> u64
-    ensures { λ n. ⌜ BeginsAt (Waiting.Delete (record { 0 = label }) (record { 0 = stamp })) (now (card .entry)) (now (answer .entry)) (now (list .entry)) n (now (card .exit)) (now (answer .exit)) (now (list .exit)) ⌝ }
+    ensures { λ n. ⌜ BeginsAt (Waiting.Delete (record { 0 = label }) (record { 0 = stamp })) (now (card .entry)) (now (list .entry)) n (now (card .exit)) (now (answer .exit)) (now (list .exit)) ⌝ }
 {
     let taken = held::card_of(card);
     let done = taken.begin_delete(Leaf(label), Stamp(stamp), list);
     told::settle(done, card, answer)
 }
 
+// The card is lent to be read: its words stay, those of fields that its kind does not use, too.
 #[no_mangle]
-pub extern "C" fn nwidarap_find_min(card: &mut [u64; 272], answer: &mut [u64; 6]) -> u64
-    ensures { λ n. ⌜ Called (onCard (now (card .entry)) minTable) (foundMin (cardIn (now (card .entry)))) (now (card .entry)) (now (answer .entry)) n (now (card .exit)) (now (answer .exit)) ⌝ }
+pub extern "C" fn nwidarap_find_min(
+    card: &[u64; CARD_WORDS],
+    answer: &mut [u64; ANSWER_WORDS],
+) -> u64
+    ensures { λ n. ⌜ FindsMin (now (card .entry)) n (now (answer .exit)) ⌝ }
 {
     let taken = held::card_of(card);
     let done = taken.find_min();
-    told::settle(done, card, answer)
+    let said = done.answer;
+    told::say(said, answer)
 }
 
 #[no_mangle]
-pub extern "C" fn nwidarap_withdraw(card: &mut [u64; 272], answer: &mut [u64; 6]) -> u64
-    ensures { λ n. ⌜ Called (onCard (now (card .entry)) withdrawTable) (withdrawn (cardIn (now (card .entry)))) (now (card .entry)) (now (answer .entry)) n (now (card .exit)) (now (answer .exit)) ⌝ }
+pub extern "C" fn nwidarap_withdraw(
+    card: &mut [u64; CARD_WORDS],
+    answer: &mut [u64; ANSWER_WORDS],
+) -> u64
+    ensures { λ n. ⌜ Called (onCard (now (card .entry)) withdrawTable) (withdrawn (cardIn (now (card .entry)))) (now (card .entry)) n (now (card .exit)) (now (answer .exit)) ⌝ }
 {
     let taken = held::card_of(card);
     let done = taken.withdraw();
@@ -92,11 +102,11 @@ pub extern "C" fn nwidarap_withdraw(card: &mut [u64; 272], answer: &mut [u64; 6]
 
 #[no_mangle]
 pub extern "C" fn nwidarap_finish(
-    card: &mut [u64; 272],
-    answer: &mut [u64; 6],
+    card: &mut [u64; CARD_WORDS],
+    answer: &mut [u64; ANSWER_WORDS],
     words: &mut [u64],
 ) -> u64
-    ensures { λ n. ⌜ FinishesAt (now (card .entry)) (now (answer .entry)) (now (words .entry)) n (now (card .exit)) (now (answer .exit)) (now (words .exit)) ⌝ }
+    ensures { λ n. ⌜ FinishesAt (now (card .entry)) (now (words .entry)) n (now (card .exit)) (now (answer .exit)) (now (words .exit)) ⌝ }
 {
     let taken = held::card_of(card);
     let done = taken.finish(words);

@@ -4,10 +4,16 @@ ghost use Rattle.path.specs.Layout.{freshTree};
 ghost use Rattle.rack.specs.Answers.{fillRefusal, copyRefusal};
 ghost use Rattle.copies.specs.Copy.{listed, fetched, stored};
 ghost use Rattle.driver.specs.Driven.{Racked};
+use told::ANSWER_WORDS;
 
 #[no_mangle]
-pub extern "C" fn nwidarap_fill(answer: &mut [u64; 6], h: u64, z: u64, tree: &mut [u64]) -> u64
-    ensures { λ n. ⌜ Racked (fillRefusal h z (now (tree .entry))) (freshTree h z) (now (answer .entry)) (now (tree .entry)) n (now (answer .exit)) (now (tree .exit)) ⌝ }
+pub extern "C" fn nwidarap_fill(
+    answer: &mut [u64; ANSWER_WORDS],
+    h: u64,
+    z: u64,
+    tree: &mut [u64],
+) -> u64
+    ensures { λ n. ⌜ Racked (fillRefusal h z (now (tree .entry))) (freshTree h z) (now (tree .entry)) n (now (answer .exit)) (now (tree .exit)) ⌝ }
 {
     let said = rack::fill(tree, h, z);
     told::tell(said, answer)
@@ -15,7 +21,7 @@ pub extern "C" fn nwidarap_fill(answer: &mut [u64; 6], h: u64, z: u64, tree: &mu
 
 #[no_mangle]
 pub extern "C" fn nwidarap_fetch(
-    answer: &mut [u64; 6],
+    answer: &mut [u64; ANSWER_WORDS],
     h: u64,
     z: u64,
     whole: usize,
@@ -24,7 +30,7 @@ pub extern "C" fn nwidarap_fetch(
     tree: &[u64],
     words: &mut [u64],
 ) -> u64
-    ensures { λ n. ⌜ Racked (copyRefusal h z (now (tree .entry)) (now (list .entry)) whole least (now (words .entry))) (fetched z (now (tree .entry)) (listed (now (list .entry)) whole least) (now (words .entry))) (now (answer .entry)) (now (words .entry)) n (now (answer .exit)) (now (words .exit)) ⌝ }
+    ensures { λ n. ⌜ Racked (copyRefusal h z (now (tree .entry)) (now (list .entry)) whole least (now (words .entry))) (fetched z (now (tree .entry)) (listed (now (list .entry)) whole least) (now (words .entry))) (now (words .entry)) n (now (answer .exit)) (now (words .exit)) ⌝ }
 {
     let said = rack::fetch(h, z, tree, list, whole, least, words);
     told::tell(said, answer)
@@ -32,7 +38,7 @@ pub extern "C" fn nwidarap_fetch(
 
 #[no_mangle]
 pub extern "C" fn nwidarap_store(
-    answer: &mut [u64; 6],
+    answer: &mut [u64; ANSWER_WORDS],
     h: u64,
     z: u64,
     whole: usize,
@@ -41,7 +47,7 @@ pub extern "C" fn nwidarap_store(
     words: &[u64],
     tree: &mut [u64],
 ) -> u64
-    ensures { λ n. ⌜ Racked (copyRefusal h z (now (tree .entry)) (now (list .entry)) whole least (now (words .entry))) (stored z (listed (now (list .entry)) whole least .whole) (now (words .entry)) (now (tree .entry))) (now (answer .entry)) (now (tree .entry)) n (now (answer .exit)) (now (tree .exit)) ⌝ }
+    ensures { λ n. ⌜ Racked (copyRefusal h z (now (tree .entry)) (now (list .entry)) whole least (now (words .entry))) (stored z (listed (now (list .entry)) whole least .whole) (now (words .entry)) (now (tree .entry))) (now (tree .entry)) n (now (answer .exit)) (now (tree .exit)) ⌝ }
 {
     let said = rack::store(h, z, tree, list, whole, least, words);
     told::tell(said, answer)

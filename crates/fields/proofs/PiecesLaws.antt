@@ -1,5 +1,5 @@
 -- Bytes parted at a byte: the first piece, the pieces behind it, and bytes compared. Assumes nothing.
-use Prim.Native.Nat.{ℕ, suc, _+_, _-_, _≤_, _<_}
+use Prim.Native.Nat.{ℕ, suc, _+_, _≤_, _<_}
 use mathlib.Core.Bool.{true, false, cond, _&&_, and-false}
 use mathlib.Core.List.{List, [], _∷_}
 use mathlib.Core.Path.{_≡_, refl, ap}
@@ -9,7 +9,7 @@ use lib.Dec.{eqb}
 use lib.ListN.{length, getD, take, drop, drop-of-length-le}
 use lib.Seq.{drop-cons, drop-drop}
 use borrow.Author.Tests.{eq-eqb, ne-eqb}
-use Rattle.fields.specs.Pieces.{onto, pieces, fieldsOf, before, same}
+use Rattle.fields.specs.Pieces.{onto, pieces, fieldsOf, before, sameBytes}
 use Rattle.fields.specs.Behind.{behind}
 
 -- ---- what stands before the first byte `at`
@@ -74,18 +74,18 @@ module _ (line : List ℕ) (i : ℕ) where
       )
 
 -- ---- bytes compared
-pub other-length : (xs ys : List ℕ) → (length xs ≡ length ys → ⊥) → same xs ys ≡ false
-unfolding same
+pub other-length : (xs ys : List ℕ) → (length xs ≡ length ys → ⊥) → sameBytes xs ys ≡ false
+unfolding sameBytes
 other-length [] [] n = absurd (n refl)
 other-length [] (y ∷ ys) n = refl
 other-length (x ∷ xs) [] n = refl
 other-length (x ∷ xs) (y ∷ ys) n = simp (other-length xs ys (λ e. n (ap suc e)), and-false)
 
 module _ (xs ys : List ℕ) (i : ℕ) (l : i < length xs) (e : length xs ≡ length ys) where
-  pub same-next : same (drop i xs) (drop i ys) ≡ eqb (getD xs i 0) (getD ys i 0) && same (drop (i + 1) xs) (drop (i + 1) ys)
-  unfolding same
+  pub same-next : sameBytes (drop i xs) (drop i ys) ≡ eqb (getD xs i 0) (getD ys i 0) && sameBytes (drop (i + 1) xs) (drop (i + 1) ys)
+  unfolding sameBytes
   same-next = rw (drop-cons xs i 0 l, drop-cons ys i 0 (omega arith), add-one)
 
-pub all-same : (xs ys : List ℕ) (i : ℕ) → length xs ≤ i → length xs ≡ length ys → same (drop i xs) (drop i ys) ≡ true
-unfolding same
+pub all-same : (xs ys : List ℕ) (i : ℕ) → length xs ≤ i → length xs ≡ length ys → sameBytes (drop i xs) (drop i ys) ≡ true
+unfolding sameBytes
 all-same xs ys i l e = rw (drop-of-length-le xs {i = i} l, drop-of-length-le ys {i = i} (omega arith))

@@ -20,12 +20,12 @@ allNumbers [] = true
 allNumbers (f ∷ fs) = isNumber f && allNumbers fs
 
 -- the fields up to the first that is no number, each into its place
-unfoldable pub written : List (List ℕ) → List ℕ → List ℕ
-written [] places = places
-written (f ∷ fs) [] = []
-written (f ∷ fs) (p ∷ places) = cond (isNumber f) (value f ∷ written fs places) (p ∷ places)
+unfoldable pub spelled : List (List ℕ) → List ℕ → List ℕ
+spelled [] places = places
+spelled (f ∷ fs) [] = []
+spelled (f ∷ fs) (p ∷ places) = cond (isNumber f) (value f ∷ spelled fs places) (p ∷ places)
 
 -- whether the fields are numbers, just as many as there are places; and what was written
 pub record Numbered (fields : List (List ℕ)) (places : List ℕ) (answer : Bool) (after : List ℕ) : Type 0 where
   pub told : answer ≡ (eqb (length fields) (length places) && allNumbers fields)
-  pub these : after ≡ written fields places
+  pub these : after ≡ spelled fields places

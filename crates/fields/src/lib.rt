@@ -3,7 +3,7 @@ ghost use mathlib.Core.Path.{_≡_};
 ghost use Prim.Native.Nat.{_+_};
 ghost use lib.ListN.{length, drop};
 ghost use Rattle.fields.specs.Pieces.{before};
-ghost use Rattle.fields.specs.Pieces.{same as Pieces·same};
+ghost use Rattle.fields.specs.Pieces.{sameBytes};
 ghost use Rattle.fields.specs.Behind.{behind, Numbered};
 use decimal::Reading;
 
@@ -25,7 +25,7 @@ pub fn end_of(bytes: &[u8], from: usize, at: u8) -> usize
 }
 
 pub fn same(a: &[u8], b: &[u8]) -> bool
-    ensures { λ r. ⌜ r ≡ Pieces·same (now (a .entry)) (now (b .entry)) ⌝ }
+    ensures { λ r. ⌜ r ≡ sameBytes (now (a .entry)) (now (b .entry)) ⌝ }
 {
     if a.len() != b.len() {
         return false;

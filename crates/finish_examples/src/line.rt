@@ -1,5 +1,5 @@
 // Lines of the table: some numbers, or an answer's number and its six values.
-use card::Answer;
+use answers::Answer;
 use libc::STDOUT_FILENO;
 
 pub(crate) fn numbers(list: &[u64]) {
@@ -11,7 +11,7 @@ pub(crate) fn numbers(list: &[u64]) {
 }
 
 pub(crate) fn answer(answer: Answer) {
-    let n = values::number_of(answer);
-    let v = values::values_of(answer);
+    let n = answers::number_of(answer);
+    let v = answers::values_of(answer);
     numbers(&[n, v[0], v[1], v[2], v[3], v[4], v[5]]);
 }

@@ -1,6 +1,6 @@
 // One request after the other: begin, fetch, finish, store.
 use crate::line;
-use card::Answer;
+use answers::Answer;
 use card::Card;
 use card::Done;
 use record::Leaf;

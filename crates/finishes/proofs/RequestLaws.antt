@@ -1,5 +1,5 @@
 -- The finish of a request, told of the request that waits. Assumes nothing.
-use Prim.Native.Nat.{ℕ, _≤_}
+use Prim.Native.Nat.{ℕ}
 use mathlib.Core.List.{List}
 use mathlib.Core.Path.{_≡_, sym, subst}
 use native.Mathlib.Omega.{arith}
@@ -14,7 +14,8 @@ use Rattle.settle.specs.Settled.{Settles}
 use Rattle.removal.proofs.ExtractLaws.{extract-settles}
 use Rattle.request.specs.declared.Waiting.{Waiting}
 use Rattle.request.specs.declared.Waiting.the-variants.{Extract}
-use Rattle.finishes.specs.Finishes.{leftFor, damagedFor, wordsFor, Finishable}
+use Rattle.listing.specs.Listing.{listFor}
+use Rattle.finishes.specs.Finishes.{leftFor, damagedFor, Finishable}
 
 module _ (s : Sizes) (t c : ℕ) (root : List Record) (least : Record) (ws : List ℕ) where
   -- what is asked for, and what is promised, of the request that waits
@@ -24,7 +25,7 @@ module _ (s : Sizes) (t c : ℕ) (root : List Record) (least : Record) (ws : Lis
   module _ (after : List ℕ) (out : Settled) where
     abbrev SettlesFor : Waiting → Type 0
     SettlesFor w =
-        Settles root least c (damagedFor s t c root least w ws) (leftFor s t c root least w ws) (wordsFor s least w) ws after out
+        Settles root least c (damagedFor s t c root least w ws) (leftFor s t c root least w ws) (wordsMoved (s .z) (listFor (s .h) (least .label) w)) ws after out
 
     pub settled-for : (w v : Waiting) → w ≡ v → SettlesFor v → SettlesFor w
     settled-for w v e p = subst SettlesFor (sym e) p

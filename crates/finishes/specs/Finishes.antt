@@ -1,16 +1,13 @@
--- What the finish of each request leaves, when it is Damaged, and the words moved for it: document 01, "A request, step by
--- step". What one removal and one insertion leave stands in settle/specs/Left.antt; here they are taken for the request
--- that waits. Assumes nothing.
+-- What the finish of each request leaves, and when it is Damaged: document 01, "A request, step by step". What one removal and
+-- one insertion leave stands in settle/specs/Left.antt; here they are taken for the request that waits. Assumes nothing.
 use Prim.Native.Nat.{ℕ}
 use mathlib.Core.Bool.{Bool, true, false}
 use mathlib.Core.List.{List, []}
 use mathlib.Core.Path.{_≡_}
-use Rattle.record.specs.declared.Leaf.{Leaf}
 use Rattle.record.specs.declared.Record.{Record}
 use Rattle.record.specs.Standing.{recordOf, same, isProper}
 use Rattle.path.specs.declared.sizes.Sizes.{Sizes}
 use Rattle.path.specs.Sizes.{leavesOf}
-use Rattle.lists.specs.BucketList.{wordsMoved, pairList, pathList}
 use Rattle.clearing.specs.Removal.{named}
 use Rattle.judge.specs.BadParts.{stampOf}
 use Rattle.settle.specs.Left.{Left, removal, insertion, removalDamaged, insertionDamaged}
@@ -34,13 +31,6 @@ module _ (s : Sizes) (t c : ℕ) (root : List Record) (least : Record) where
       insertionDamaged s t c root least ws first second (recordOf key value label (stampOf t))
   damagedFor Extract ws = removalDamaged s t c root least ws (least .label) (same least)
   damagedFor (Delete label stamp) ws = removalDamaged s t c root least ws label (named label stamp)
-
--- "The answer carries the words moved": those of the request's list
-abbrev pub wordsFor : Sizes → Record → Waiting → ℕ
-wordsFor s least Nothing = 0
-wordsFor s least (Insert key value label first second) = wordsMoved (s .z) (pairList (s .h) first second)
-wordsFor s least Extract = wordsMoved (s .z) (pathList (s .h) (least .label))
-wordsFor s least (Delete label stamp) = wordsMoved (s .z) (pathList (s .h) label)
 
 -- what is asked for: a request waits, the parts fit, its leaves are the tree's, and its words are there; the record that
 -- ExtractMin takes out is a live event

@@ -1,8 +1,10 @@
 // The finish of each request on the card's parts: document 01, "Finish takes the fetched words in list order." Whichever
 // request waits, it is worked out and written, or it is Damaged and nothing is changed.
-// Stands on `request`, `settle`, `removal`, `insertion`.
+// Stands on `request`, `listing`, `settle`, `removal`, `insertion`.
 ghost use Rattle.settle.specs.Settled.{Settles};
-ghost use Rattle.finishes.specs.Finishes.{leftFor, damagedFor, wordsFor, Finishable};
+ghost use Rattle.lists.specs.BucketList.{wordsMoved};
+ghost use Rattle.listing.specs.Listing.{listFor};
+ghost use Rattle.finishes.specs.Finishes.{leftFor, damagedFor, Finishable};
 use path::Sizes;
 use record::Record;
 use record::Stamp;
@@ -21,7 +23,7 @@ pub fn settle_request(
     waiting: Waiting,
 ) -> Settled
     requires { ⌜ Finishable sizes t c least waiting (now words) ⌝ }
-    ensures { λ out. ⌜ Settles root least c (damagedFor sizes t c root least waiting (now (words .entry))) (leftFor sizes t c root least waiting (now (words .entry))) (wordsFor sizes least waiting) (now (words .entry)) (now (words .exit)) out ⌝ }
+    ensures { λ out. ⌜ Settles root least c (damagedFor sizes t c root least waiting (now (words .entry))) (leftFor sizes t c root least waiting (now (words .entry))) (wordsMoved (sizes .z) (listFor (sizes .h) (least .label) waiting)) (now (words .entry)) (now (words .exit)) out ⌝ }
 {
     match waiting {
         // no request is finished where none waits
@@ -34,12 +36,7 @@ pub fn settle_request(
             second,
         } => {
             let stamp = Stamp(t);
-            let new = Record {
-                key: key,
-                value: value,
-                label: label,
-                stamp: stamp,
-            };
+            let new = Record::proper(key, value, label, stamp);
             insertion::settle_insertion(words, root, sizes, t, c, least, new, first, second)
         }
         Waiting::Extract => {

@@ -15,6 +15,17 @@ use Rattle.decimal.specs.Promises.{Laid}
 use Rattle.decimal.proofs.PrintLaws.{no-room, in-room, laid-in-room, decimal-length}
 use Rattle.frames.specs.Answer.{markOf, answerLine, unreadableLine}
 
+-- ---- all of a slice from `at` on, lent and put back
+module _ (at : ℕ) (whole : List ℕ) where
+  pub rest-lent : midOf at (length whole - at) whole ≡ drop at whole
+  rest-lent = take-all (length whole - at) (drop at whole) (omega (arith, length-drop at whole))
+
+  pub put-back : (part : List ℕ) → putMid at (length whole - at) whole part ≡ take at whole ++ part
+  put-back part =
+      let none : postOf at (length whole - at) whole ≡ [] =
+      drop-of-length-le (drop at whole) {i = length whole - at} (omega (arith, length-drop at whole)) in
+      rw (none, append-nil)
+
 -- ---- the line from place i on, its first number apart
 module _ (numbers : List ℕ) (i : ℕ) where
   pub answer-none : length numbers ≤ i → answerLine (drop i numbers) ≡ []
@@ -166,17 +177,8 @@ module _ (numbers old : List ℕ) (i at : ℕ) (now : List ℕ) (w : Writing num
       (l : i < length numbers) (k : ℕ) (part : List ℕ)
       (p : Laid (decimal (getD numbers i 0)) (midOf at (length now - at) now) k part)
     where
-      rest-lent : midOf at (length now - at) now ≡ drop at now
-      rest-lent = take-all (length now - at) (drop at now) (omega (arith, length-drop at now))
-
       lent : Laid (decimal (getD numbers i 0)) (drop at now) k part
-      lent = rw rest-lent at p
-
-      put-back : putMid at (length now - at) now part ≡ take at now ++ part
-      put-back =
-          let none : postOf at (length now - at) now ≡ [] =
-          drop-of-length-le (drop at now) {i = length now - at} (omega (arith, length-drop at now)) in
-          rw (none, append-nil)
+      lent = rw (rest-lent at now) at p
 
       pub next-fits : at + k < length now
       next-fits = next-place l k part lent
@@ -184,13 +186,13 @@ module _ (numbers old : List ℕ) (i at : ℕ) (now : List ℕ) (w : Writing num
       pub next-turn :
           (m : ℕ) → m ≡ cond (ltb (i + 1) (length numbers)) 32 10
           → Writing numbers old (i + 1) (at + k + 1) (set (putMid at (length now - at) now part) (at + k) m)
-      next-turn m e = rw put-back (writing-turns l k part lent m e)
+      next-turn m e = rw (put-back at now part) (writing-turns l k part lent m e)
 
       pub next-within : at + k < length (putMid at (length now - at) now part)
       next-within =
           let size : length part ≡ length (drop at now) =
           rw (printed l k part lent .1, length-append, length-drop) (omega (arith, room-left l k part lent, length-drop at now)) in
-          rw (put-back, length-append, size, length-take-le at now (omega (arith, w .enough, w .room)), length-drop)
+          rw (put-back at now part, length-append, size, length-take-le at now (omega (arith, w .enough, w .room)), length-drop)
           (omega (arith, next-place l k part lent))
 
   pub writing-ends : length numbers ≤ i → Laid (answerLine numbers) old at now

@@ -1,7 +1,7 @@
 -- Lines cut out of bytes as they come are the lines of the whole input, however the bytes are parted into chunks: a chunk after
 -- another ends the lines that both end together, and in the end these are the lines of the input. `Keeps` says what the buffer
 -- holds of the line begun. Assumes nothing.
-use Prim.Native.Nat.{ℕ, zero, suc, _+_, _-_, _≤_, _<_}
+use Prim.Native.Nat.{ℕ, zero, suc, _≤_, _<_}
 use mathlib.Core.Bool.{true, false, cond, true≢false}
 use mathlib.Core.List.{List, [], _∷_, _++_, append-assoc, append-nil}
 use mathlib.Core.Path.{_≡_, refl, sym, ap, _∙_}
@@ -11,34 +11,15 @@ use lib.ListN.{length, take, drop, length-take}
 use lib.Seq.{take-all, take-nil, take-at, drop-drop}
 use borrow.Author.Tests.{ltb-true, ltb-false, lt-ltb, eqb-true}
 use Rattle.frames.specs.declared.Taken.{Taken}
-use Rattle.fields.specs.Pieces.{pieces, before}
+use Rattle.fields.specs.Pieces.{before}
 use Rattle.lines.specs.Says.{linesOf, lineSays}
 use Rattle.frames.specs.Framing.{endedIn, begunBy, lastOf, hasEnd, takenOf, keptOf, Takes}
 use Rattle.fields.proofs.PiecesLaws.{before-head}
+use Rattle.lines.proofs.LinesLaws.{Free, free-head, no-line, lines-ended, last-line}
 use Rattle.lines.proofs.SaysLaws.{over-long}
 use Rattle.frames.proofs.TakeLaws.{takes-within, takes-room}
 
 -- ---- bytes with no line end
--- no byte 10 is among these
-abbrev pub Free : List ℕ → Type 0
-Free bytes = before 10 bytes ≡ bytes
-
-pub record FreeHead (b : ℕ) (bs : List ℕ) : Type 0 where
-  pub other : eqb b 10 ≡ false
-  pub rest : Free bs
-
-pub free-head : (b : ℕ) (bs : List ℕ) → Free (b ∷ bs) → FreeHead b bs
-unfolding before
-free-head b bs = (elim (eqb b 10) as (λ t. eqb b 10 ≡ t → cond t [] (b ∷ before 10 bs) ≡ b ∷ bs → FreeHead b bs) [
-  | true ↦ λ e f. absurd (nothing f)
-  | false ↦ λ e f. record { other = e; rest = cc }
-]) refl
-  where
-    nothing : [] ≡ b ∷ bs → ⊥
-    nothing e =
-        let no : _≡_ {A = ℕ} 0 1 = cc in
-        omega arith
-
 pub free-before : (bs : List ℕ) → Free (before 10 bs)
 unfolding before
 free-before [] = refl
@@ -54,20 +35,9 @@ free-append (a ∷ xs) bs f g =
     let h = free-head a xs f in
     rw (h .other, free-append xs bs (h .rest) g)
 
-lines-ended : (xs bs : List ℕ) → Free xs → linesOf (xs ++ 10 ∷ bs) ≡ xs ∷ linesOf bs
-unfolding pieces
-lines-ended [] bs f = refl
-lines-ended (a ∷ xs) bs f =
-    let h = free-head a xs f in
-    rw (h .other, lines-ended xs bs (h .rest))
-
 lines-open : (xs : List ℕ) → Free xs → linesOf xs ≡ lastOf xs
-unfolding pieces
-lines-open [] f = refl
-lines-open (a ∷ []) f = rw (free-head a [] f .other)
-lines-open (a ∷ b ∷ xs) f =
-    let h = free-head a (b ∷ xs) f in
-    rw (h .other, lines-open (b ∷ xs) (h .rest))
+lines-open [] f = no-line
+lines-open (a ∷ xs) f = last-line a xs f
 
 -- ---- bytes with a line end, or without
 pub unended : (bs : List ℕ) → hasEnd bs ≡ false → before 10 bs ≡ bs
@@ -179,14 +149,14 @@ module _
           ∙ rw past
 
     module _ (e : r .ended ≡ false) where
-      all : before 10 (drop from chunk) ≡ drop from chunk
-      all = unended (drop from chunk) (sym (t .ended) ∙ e)
+      pub all-open : before 10 (drop from chunk) ≡ drop from chunk
+      all-open = unended (drop from chunk) (sym (t .ended) ∙ e)
 
       pub none-ended : endedIn begun (drop from chunk) ≡ []
-      none-ended = ended-none begun (drop from chunk) all
+      none-ended = ended-none begun (drop from chunk) all-open
 
       pub line-goes-on : begunBy begun (drop from chunk) ≡ begun ++ before 10 (drop from chunk)
-      line-goes-on = begun-none begun (drop from chunk) all ∙ rw all
+      line-goes-on = begun-none begun (drop from chunk) all-open ∙ rw all-open
 
 -- ---- what the buffer holds of the line begun
 pub record Keeps (buffer : List ℕ) (held : ℕ) (begun : List ℕ) : Type 0 where

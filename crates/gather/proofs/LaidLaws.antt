@@ -9,17 +9,12 @@ use lib.Seq.{length-take-le, take-length, take-at, drop-at, drop-drop, getD-appe
 use Rattle.record.specs.declared.Record.{Record}
 use Rattle.record.specs.Words.{records, wordsOf, written}
 use Rattle.record.proofs.WordsLaws.{written-splits, words-one, words-append, words-length, words-records, records-append, records-take, records-drop, records-count, records-long, records-length}
-use Rattle.way.proofs.WayLaws.{part-length}
+use Rattle.way.proofs.WayLaws.{part-length, part-words}
 use Rattle.gather.specs.Laid.{laidOver}
 
 -- the words before a place are those of the records before it
 before-place : (ws : List ℕ) (p : ℕ) → 4 * p ≤ length ws → take (4 * p) ws ≡ wordsOf (take p (records ws))
 before-place ws p h = rw (← records-take) (sym (words-records _ p (length-take-le (4 * p) ws h)))
-
--- the words of n records from a place on
-pub part-words : (ws : List ℕ) (p n : ℕ) → 4 * (p + n) ≤ length ws
-    → take (4 * n) (drop (4 * p) ws) ≡ wordsOf (take n (drop p (records ws)))
-part-words ws p n h = rw (← records-drop) (before-place (drop (4 * p) ws) n (rw length-drop (omega arith)))
 
 -- all of them again, or none, changes nothing
 pub laid-all : (ws : List ℕ) → laidOver ws 0 (records ws) ≡ ws
@@ -80,4 +75,4 @@ pub paste-laid : (ws src : List ℕ) (at from n : ℕ) → 4 * (from + n) ≤ le
 unfolding laidOver
 paste-laid ws src at from n h =
     let e : 4 * at + 4 * n ≡ 4 * (at + n) = omega arith in
-    rw (part-words src from n h, part-length src from n h, e)
+    rw (← part-words src from n h, part-length src from n h, e)

@@ -22,9 +22,6 @@ module _ (h z r : ℕ) (ws : List ℕ) (i : ℕ) (given : 4 * ((i + h) * (z + 1)
       let n = slots-length z ws i h given in
       laid-last w r (slotsShown z ws i h) (omega arith) (omega arith)
 
-  pub path-loaded-length : length (laidOver w r (slotsShown z ws i h)) ≡ length w
-  path-loaded-length = laid-length w r (slotsShown z ws i h) (omega (arith, slots-length z ws i h given))
-
 -- the root's slots, then the path's
 module _ (h z r : ℕ) (root : List Record) (ws : List ℕ) (i : ℕ) (full : r ≤ length root) (given : 4 * ((i + h) * (z + 1)) ≤ length ws)
     (w : List ℕ) (long : length w ≡ 4 * (r + z * h)) where

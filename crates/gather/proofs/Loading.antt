@@ -6,10 +6,11 @@ use mathlib.Core.List.{List, [], _++_}
 use native.Mathlib.Nat.{mul-le-mul-left, mul-le-mul-right}
 use native.Mathlib.Numerals.{add-one}
 use native.Mathlib.Omega.{arith}
-use lib.ListN.{length, getD, set, take, drop, length-drop, length-set}
-use lib.Seq.{length-take-le, take-suc, drop-cons, set-at, append-snoc, getD-drop, paste, paste-zero, paste-suc}
+use lib.ListN.{length, getD, set, take, drop}
+use lib.Seq.{length-take-le, take-suc, drop-cons, set-at, append-snoc}
 use Rattle.record.specs.declared.Record.{Record}
 use Rattle.record.specs.Words.{records, written}
+use Rattle.record.proofs.Pasting.{Pasting, pasting-ends}
 use Rattle.path.specs.Layout.{recordWords}
 use Rattle.way.proofs.WayLaws.{part-length}
 use Rattle.gather.specs.Laid.{laidOver, SiblingsLoaded}
@@ -17,32 +18,10 @@ use Rattle.gather.specs.Shown.{slotsShown, siblingsShown}
 use Rattle.gather.proofs.LaidLaws.{laid-none, laid-length, laid-more, written-laid, paste-laid}
 use Rattle.gather.proofs.ShownLaws.{slots-none, slots-more, slots-length, siblings-none, siblings-more, siblings-length}
 
--- A loop over words has copied k of `count`.
-pub record Copying (old src : List ℕ) (to first count : ℕ) (now : List ℕ) (k : ℕ) : Type 0 where
-  pub room : length now ≡ length old
-  pub place : k ≤ count
-  pub done : now ≡ paste old to (drop first src) k
-
-module _ (old src : List ℕ) (to first count : ℕ) where
-  pub copying-starts : Copying old src to first count old 0
-  copying-starts = record { room = refl; place = omega arith; done = paste-zero old to (drop first src) }
-
-  pub copying-turns : (now : List ℕ) (k : ℕ) → Copying old src to first count now k → k < count
-      → to + count ≤ length old → first + count ≤ length src
-      → Copying old src to first count (set now (to + k) (getD src (first + k) 0)) (k + 1)
-  copying-turns now k c l fits given =
-      let more = paste-suc old to (drop first src) k 0 (omega arith) (rw length-drop (omega arith)) in
-      record {
-        room = length-set now (to + k) _ ∙ c .room;
-        place = omega arith;
-        done = rw (c .done, ← getD-drop, add-one) more;
-      }
-
-pub copying-ends : (old src now : List ℕ) (at from n k : ℕ) → Copying old src (4 * at) (4 * from) (4 * n) now k
+-- Words copied are records laid.
+pub pasting-laid : (old src now : List ℕ) (at from n k : ℕ) → Pasting old src (4 * at) (4 * from) (4 * n) now k
     → 4 * n ≤ k → 4 * (from + n) ≤ length src → now ≡ laidOver old at (take n (drop from (records src)))
-copying-ends old src now at from n k c l given =
-    let e : k ≡ 4 * n = omega arith in
-    c .done ∙ rw e (paste-laid old src at from n given)
+pasting-laid old src now at from n k p l given = pasting-ends _ _ _ _ _ _ _ p l ∙ paste-laid old src at from n given
 
 -- Records are laid from a place on, so far `rs`.
 pub record Laying (old : List ℕ) (at : ℕ) (rs : List Record) (now : List ℕ) : Type 0 where

@@ -6,13 +6,14 @@ use native.Mathlib.Nat.{add-zero, add-suc, add-assoc, mul-le-mul-right}
 use native.Mathlib.Numerals.{add-one}
 use native.Mathlib.Omega.{arith}
 use lib.ListN.{length, getD, take, drop, length-append, length-drop, length-map}
-use lib.Seq.{length-take-le, drop-cons, drop-drop, take-take, take-at, drop-at, take-add, getD-take, getD-drop}
+use lib.Seq.{length-take-le, drop-cons, drop-drop, take-at, drop-at, take-add, getD-take, getD-drop}
 use Rattle.record.specs.declared.Record.{Record}
 use Rattle.record.specs.Standing.{dummy}
 use Rattle.record.specs.Words.{records}
 use Rattle.record.proofs.WordsLaws.{records-long, records-take, records-drop}
+use Rattle.record.proofs.PartLaws.{part-within}
 use Rattle.path.specs.Path.{upFrom}
-use Rattle.lists.proofs.Naming.{length-upFrom}
+use Rattle.path.proofs.LevelLaws.{length-upFrom, map-upFrom-at}
 use Rattle.least.specs.Least.{slotsAt, rootSlots}
 use Rattle.way.proofs.WayLaws.{part-length}
 use Rattle.gather.specs.Shown.{wholeAt, siblingAt, siblingsShown, slotsShown, wayShown}
@@ -94,20 +95,10 @@ module _ (z : ℕ) (ws : List ℕ) where
   siblings-length n i k = length-map (upFrom i k) (siblingAt z ws n) ∙ length-upFrom i k
 
   pub siblings-at : (n i k j : ℕ) (d : Record) → j < k → getD (siblingsShown z ws n i k) j d ≡ siblingAt z ws n (i + j)
-  unfolding siblingsShown upFrom
-  siblings-at n i zero j d l = absurd (omega arith)
-  siblings-at n i (suc k) zero d l = ap (siblingAt z ws n) (omega arith)
-  siblings-at n i (suc k) (suc j) d l = siblings-at n (suc i) k j d (omega arith) ∙ ap (siblingAt z ws n) (omega arith)
+  unfolding siblingsShown
+  siblings-at n = map-upFrom-at (siblingAt z ws n)
 
 -- ---- a path's part of the words: k buckets from the i-th on
--- what lies within the first p does not see the rest
-within : (l : List Record) (m n p : ℕ) → m + n ≤ p → p ≤ length l → take n (drop m (take p l)) ≡ take n (drop m l)
-within l m n p h k =
-    let e : m + (p - m) ≡ p = omega arith in
-    let q = length-take-le m l (omega arith) in
-    let s = rw e at (take-add m (p - m) l) in
-    rw (s, drop-at (take m l) _ m q, take-take n (p - m) (drop m l) (omega arith))
-
 abbrev pub bucketsIn : ℕ → List ℕ → ℕ → ℕ → List ℕ
 bucketsIn z ws i k = take (4 * (k * (z + 1))) (drop (4 * (i * (z + 1))) ws)
 
@@ -125,21 +116,18 @@ module _ (z : ℕ) (ws : List ℕ) (i k : ℕ) (h : 4 * ((i + k) * (z + 1)) ≤ 
       let a : getD (records (bucketsIn z ws i k)) (j * (z + 1)) dummy ≡ getD (records ws) ((i + j) * (z + 1)) dummy =
       rw (e, getD-take p first (j * (z + 1)) dummy (omega arith), getD-drop, f) in
       let b : take z (drop (j * (z + 1) + 1) (records (bucketsIn z ws i k))) ≡ take z (drop ((i + j) * (z + 1) + 1) (records ws)) =
-      rw (e, within first (j * (z + 1) + 1) z p (omega arith) given, drop-drop, g) in
+      rw (e, part-within (j * (z + 1) + 1) z p first (omega arith) given, drop-drop, g) in
       λ x. record { least = a x; slots = b x }
 
 -- ---- the way of a path whose h buckets stand from the i-th on
 module _ (h z r : ℕ) (root : List Record) (ws : List ℕ) (i : ℕ) (full : r ≤ length root) (given : 4 * ((i + h) * (z + 1)) ≤ length ws) where
-  root-length : length (take r root) ≡ r
-  root-length = length-take-le r root full
-
   pub way-length : length (wayShown h z r root ws i) ≡ r + z * h
   unfolding wayShown
-  way-length = rw (length-append, root-length, slots-length z ws i h given)
+  way-length = rw (length-append, length-take-le r root full, slots-length z ws i h given)
 
   pub way-root : rootSlots r (wayShown h z r root ws i) ≡ take r root
   unfolding wayShown
-  way-root = take-at _ _ r root-length
+  way-root = take-at _ _ r (length-take-le r root full)
 
   -- its slots at level d are those of the path's bucket there
   pub way-slots : (d : ℕ) → 1 ≤ d → d ≤ h → slotsAt r z (wayShown h z r root ws i) d ≡ wholeAt z ws (i + (d - 1)) .slots
@@ -149,7 +137,7 @@ module _ (h z r : ℕ) (root : List Record) (ws : List ℕ) (i : ℕ) (full : r 
       let a = fewer z (i + (d - 1)) (i + h) given (omega arith) in
       let b = fewer z (i + (d - 1) + 1) (i + h) given (omega arith) in
       let n : length (take r root ++ slotsShown z ws i (d - 1)) ≡ r + z * (d - 1) =
-      rw (length-append, root-length, slots-length z ws i (d - 1) a) in
+      rw (length-append, length-take-le r root full, slots-length z ws i (d - 1) a) in
       let m = whole-length z ws (i + (d - 1)) b in
       let s = slots-around z ws i (d - 1) (h - d) in
       rw (e, s, ← append-assoc, drop-at _ _ _ n, take-at _ _ z m)

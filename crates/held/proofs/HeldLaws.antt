@@ -16,7 +16,7 @@ use Rattle.held.specs.Held.{noCard, heldIn}
 
 bad-sizes : (k : Card) → inRange (k .sizes) ≡ false → (b : Bool) → badCard k ≡ b → b ≡ true
 bad-sizes k h true e = refl
-bad-sizes k h false e = sym (sym (good k e .sizes) ∙ h)
+bad-sizes k h false e = sym (sym (good k e .parts .sizes) ∙ h)
 
 none-bad : badCard noCard ≡ true
 unfolding inRange treeIn between

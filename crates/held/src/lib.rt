@@ -2,13 +2,14 @@
 // sizes out of range".
 //
 // No card has a kind above 3. Such words are taken as a card of height 0, so that the card's own call finds it bad, and what is
-// lent to the call stays as it was. Stands on `path`, `card` and `image`.
+// lent to the call stays as it was. Stands on `path`, `refusal`, `request`, `card` and `image`.
 ghost use mathlib.Core.Path.{_≡_};
 ghost use Rattle.held.specs.Held.{heldIn};
 use card::Card;
+use image::CARD_WORDS;
 use path::Sizes;
 
-pub fn card_of(words: &[u64; 272]) -> Card
+pub fn card_of(words: &[u64; CARD_WORDS]) -> Card
     ensures { λ k. ⌜ k ≡ heldIn (now (words .entry)) ⌝ }
 {
     if image::is_odd(words) {

@@ -1,14 +1,12 @@
 -- A round on a ready card and its tree gives the number that the request's own rules give, and no other: neither 11 nor 12, nor 2, 3 or 13.
 -- Assumes nothing.
 use Prim.Native.Nat.{ℕ, zero, suc, _+_, _*_, _≤_}
-use mathlib.Core.Bool.{Bool, true, false, cond, _&&_, and-eq-true-iff}
+use mathlib.Core.Bool.{Bool, true, false, cond}
 use mathlib.Core.List.{List, [], _∷_}
 use mathlib.Core.Path.{_≡_, refl, sym, subst, _∙_}
 use native.Mathlib.Omega.{arith}
 use native.Mathlib.Nat.{mul-le-mul-right}
-use lib.Dec.{leb}
 use lib.ListN.{length}
-use borrow.Author.Tests.{leb-true, ne-eqb}
 use Rattle.record.specs.declared.Record.{Record}
 use Rattle.lists.specs.declared.Listed.{Listed as Counts}
 use Rattle.path.specs.Layout.{bucketWords}
@@ -23,14 +21,15 @@ use Rattle.request.specs.declared.Waiting.{Waiting}
 use Rattle.request.specs.declared.Waiting.the-variants.{Nothing, Insert, Extract, Delete}
 use Rattle.request.specs.Tables.{insertRows, extractRows, deleteRows, requestRows, waits}
 use Rattle.card.specs.Tables.{requestTable}
-use Rattle.request.specs.Tables.{countsFor}
+use Rattle.listing.specs.Listing.{countsFor}
 use Rattle.card.specs.Calls.{withWaiting, listOf, beginTable}
 use Rattle.card.specs.Answers.{orRefused}
 use Rattle.card.specs.Finish.{leftBy, finishTable, cardLeft}
 use Rattle.card.proofs.CallLaws.{same-list}
-use Rattle.card.proofs.BeginLaws.{counts-for, counts-few, request-refused, room-enough}
+use Rattle.listing.proofs.ListingLaws.{counts-few}
+use Rattle.card.proofs.BeginLaws.{counts-of, request-refused, room-enough}
 use Rattle.rounds.specs.Round.{listPlaces, wordPlaces, rackRefusal, finishRefusal, treeLeft, roundRefusal, roundDone, roundTree}
-use Rattle.rounds.proofs.RoundLaws.{or-first, or-second}
+use Rattle.refusal.proofs.RefusalLaws.{or-first, or-second}
 use Rattle.served.specs.Ready.{Ready}
 use Rattle.served.specs.LiveAfter.{liveAfter}
 use Rattle.served.proofs.CallLaws.{ready-card, begin-ready}
@@ -58,12 +57,6 @@ pick : (b : Bool) (n rest : ℕ) → ownNumber n ≡ true → ownNumber rest ≡
 pick true n rest p q = p
 pick false n rest p q = q
 
-pub own-range : (n : ℕ) → ownNumber n ≡ true → (n ≡ 0 → ⊥) → (4 ≤ n) × (n ≤ 10)
-own-range n e h =
-    let some : (leb 4 n && leb n 10) ≡ true = rw (ne-eqb n 0 h) at e in
-    let both = and-eq-true-iff (leb 4 n) _ .0 some in
-    (leb-true 4 n (both .0), leb-true n 10 (both .1))
-
 -- a table of such numbers
 data Own : List Refusal → Type 0 where
   over : Own []
@@ -81,7 +74,7 @@ request-rows k (Insert key value label first second) = next 4 refl (next 5 refl 
 request-rows k Extract = next 4 refl (next 8 refl over)
 request-rows k (Delete label stamp) = next 4 refl (next 6 refl (next 7 refl over))
 
-pub request-own : (k : Card) (w : Waiting) → ownNumber (firstGiven (requestTable k w)) ≡ true
+request-own : (k : Card) (w : Waiting) → ownNumber (firstGiven (requestTable k w)) ≡ true
 request-own k w = first-own (request-rows k w)
 
 -- ---- a round
@@ -97,7 +90,7 @@ module _
 
     few : fetchedFor (k .sizes .z) (counts (listOf k w)) ≤ length wordPlaces
     few =
-        subst (λ (n : Counts). fetchedFor (k .sizes .z) n ≤ length wordPlaces) (sym (counts-for k w (height .0)))
+        subst (λ (n : Counts). fetchedFor (k .sizes .z) n ≤ length wordPlaces) (sym (counts-of k w (height .0)))
         (words-few (k .sizes .h) (k .sizes .z) w (height .1) (slots .1))
 
     module _ (none : firstGiven (requestTable k w) ≡ 0) where

@@ -22,7 +22,7 @@ use Rattle.request.specs.declared.Waiting.the-variants.{Nothing, Insert, Extrac
 use Rattle.card.specs.Tables.{cardOf}
 use Rattle.kinds.specs.Kinds.{requestWords, waitingOf}
 use Rattle.kinds.proofs.KindLaws.{request-length, even-request}
-use Rattle.image.specs.Image.{headOf, imageOf}
+use Rattle.image.specs.Image.{cardWords, headOf, imageOf}
 use Rattle.image.specs.Reading.{waitingIn, cardIn, oddKind}
 
 head-length : (s : Sizes) (t c : ℕ) (w : Waiting) → length (headOf s t c w) ≡ 12
@@ -33,12 +33,12 @@ module _ (k : Card) (full : length (k .root) ≡ 64) where
   abbrev head : List ℕ
   head = headOf (k .sizes) (k .t) (k .c) (k .waiting)
 
-  pub image-length : length (imageOf k) ≡ 272
+  pub image-length : length (imageOf k) ≡ cardWords
   unfolding imageOf
   image-length =
       rw (length-append, words-length) (omega (arith, head-length (k .sizes) (k .t) (k .c) (k .waiting)))
 
-  module _ (ws : List ℕ) (room : length ws ≡ 272) where
+  module _ (ws : List ℕ) (room : length ws ≡ cardWords) where
     abbrev front : List Record
     front = records head ++ k .least ∷ []
 
@@ -64,7 +64,7 @@ module _ (k : Card) (full : length (k .root) ≡ 64) where
           let fits : 4 * 3 + 4 ≤ length (laidOver ws 0 (records head)) = omega arith in
           e ∙ rw (take-all 3 (records head) (omega (arith, head-count)), written-laid (laidOver ws 0 (records head)) 3 (k .least) fits) (rw head-count at m)
 
-      whole : length w ≡ 272
+      whole : length w ≡ cardWords
       whole = ap length front-written ∙ laid-length ws 0 front (omega (arith, front-count)) ∙ room
 
       pub image-written :
@@ -83,7 +83,7 @@ module _ (k : Card) (full : length (k .root) ≡ 64) where
 -- ---- read back
 -- the root's places, as many as the words behind the least record hold
 pub root-read :
-    (ws : List ℕ) (none : List Record) → length ws ≡ 272 → length none ≡ 64
+    (ws : List ℕ) (none : List Record) → length ws ≡ cardWords → length none ≡ 64
     → take 64 (records (take (length ws - 16) (drop 16 ws))) ++ drop 64 none ≡ records (drop 16 ws)
 root-read ws none room few =
     let n = records-length (drop 16 ws) 64 (length-drop 16 ws ∙ omega arith) in
@@ -118,7 +118,7 @@ front-six (a ∷ b ∷ c ∷ []) h = absurd (omega arith)
 front-six (a ∷ b ∷ c ∷ d ∷ []) h = absurd (omega arith)
 front-six (a ∷ b ∷ c ∷ d ∷ e ∷ []) h = absurd (omega arith)
 
-records-kept : (ws : List ℕ) → length ws ≡ 272 → wordsOf (recordAt ws 3 ∷ records (drop 16 ws)) ≡ drop 12 ws
+records-kept : (ws : List ℕ) → length ws ≡ cardWords → wordsOf (recordAt ws 3 ∷ records (drop 16 ws)) ≡ drop 12 ws
 records-kept ws room =
     let n = records-length ws 68 (omega arith) in
     let first = records-at ws 3 dummy (omega arith) in
@@ -126,7 +126,7 @@ records-kept ws room =
     rw (← split) (words-records (drop 12 ws) 65 (length-drop 12 ws ∙ omega arith))
 
 -- words that are read and written again stay, but for the six of the request, where a field that no one looks at is 0
-pub image-kept : (ws : List ℕ) → length ws ≡ 272
+pub image-kept : (ws : List ℕ) → length ws ≡ cardWords
     → imageOf (cardIn ws) ≡ take 6 ws ++ requestWords (waitingIn ws) ++ drop 12 ws
 unfolding imageOf cardIn
 image-kept ws room = rw (front-six ws (omega arith), ← records-kept ws room)

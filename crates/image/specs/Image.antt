@@ -1,4 +1,4 @@
--- The card as 272 words: what document 01 says a card holds, in the order in which a driver keeps it. Assumes nothing.
+-- The card as words: what document 01 says a card holds, in the order in which a driver keeps it. Assumes nothing.
 use Prim.Native.Nat.{ℕ}
 use mathlib.Core.List.{List, _∷_, _++_}
 use Rattle.record.specs.Words.{wordsOf}
@@ -6,6 +6,10 @@ use Rattle.path.specs.declared.sizes.Sizes.{Sizes}
 use Rattle.card.specs.declared.Card.{Card}
 use Rattle.request.specs.declared.Waiting.{Waiting}
 use Rattle.kinds.specs.Kinds.{requestWords}
+
+-- how many words a card is
+abbrev pub cardWords : ℕ
+cardWords = 272
 
 -- "sizes, the count t of finished requests, the count c of live events", and the waiting request: 12 words
 abbrev pub headOf : Sizes → ℕ → ℕ → Waiting → List ℕ

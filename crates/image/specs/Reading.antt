@@ -1,4 +1,4 @@
--- Which card 272 words stand for. Assumes nothing.
+-- Which card some words stand for. Assumes nothing.
 use Prim.Native.Nat.{ℕ}
 use mathlib.Core.Bool.{Bool}
 use mathlib.Core.List.{List}

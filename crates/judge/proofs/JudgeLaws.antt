@@ -17,7 +17,7 @@ use Rattle.record.proofs.WordsLaws.{records-take, records-drop}
 use Rattle.path.specs.declared.sizes.Sizes.{Sizes}
 use Rattle.path.specs.Sizes.{leavesOf}
 use Rattle.root.specs.Root.{strangeSlot, usedPast, stampShared, rootRecords, greaterThanSome, slotsFine}
-use Rattle.judge.specs.BadParts.{stampOf, badSizes, overSpent, overLive, badRoot, badLeast, badParts, oddLeast, rootBad}
+use Rattle.judge.specs.BadParts.{stampOf, badSizes, overSpent, overLive, badRoot, badLeast, badParts, oddLeast, rootFails}
 
 not-leb : (a b : ℕ) → not (leb a b) ≡ ltb b a
 not-leb a b = (elim (leb a b) as (λ t. leb a b ≡ t → not t ≡ ltb b a) [
@@ -42,7 +42,7 @@ module _ (s : Sizes) (t c : ℕ) (root : List Record) (least : Record) where
 
   root-regroups :
       (badRoot s t c root least || badLeast s t c root least)
-      ≡ (rootBad (s .r) root n (stampOf t) c least || oddLeast n (stampOf t) c least)
+      ≡ (rootFails (s .r) root n (stampOf t) c least || oddLeast n (stampOf t) c least)
   unfolding strangeSlot usedPast stampShared rootRecords greaterThanSome slotsFine
   root-regroups =
       rw (← not-leb (reals slots) c)
@@ -53,14 +53,14 @@ module _ (s : Sizes) (t c : ℕ) (root : List Record) (least : Record) where
   pub bad-in-turn :
       badParts s t c root least
       ≡ (badSizes s t c root least || (overSpent s t c root least || (overLive s t c root least
-      || (rootBad (s .r) root n (stampOf t) c least || oddLeast n (stampOf t) c least))))
+      || (rootFails (s .r) root n (stampOf t) c least || oddLeast n (stampOf t) c least))))
   unfolding badParts
   bad-in-turn = rw root-regroups
 
 -- what the pass over slots, places past them and stamps says of the root whose words are ws
 module _ (ws : List ℕ) (r n : ℕ) (next : Stamp) (c : ℕ) (least : Record) where
   abbrev bad : Bool
-  bad = rootBad r (records ws) n next c least
+  bad = rootFails r (records ws) n next c least
 
   -- the slots of the root, and the places past them
   module _ (fine : Bool) (found : fine ≡ slotsFine n next least c (records (take (4 * r) ws))) where

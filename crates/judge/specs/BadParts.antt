@@ -48,7 +48,8 @@ module _ (s : Sizes) (t c : ℕ) (root : List Record) (least : Record) where
   unfoldable pub badParts : Bool
   badParts = badSizes || (overSpent || (overLive || (badRoot || badLeast)))
 
--- what one pass over the root finds out: the clauses on its slots, and that none is before the least record
-abbrev pub rootBad : ℕ → List Record → ℕ → Stamp → ℕ → Record → Bool
-rootBad r root leaves next c least =
+-- the root fails in one of the clauses of `badRoot`, or in that the least record is greater than some record of the root:
+-- what the passes over the root find out
+abbrev pub rootFails : ℕ → List Record → ℕ → Stamp → ℕ → Record → Bool
+rootFails r root leaves next c least =
     not (slotsFine leaves next least c (take r root)) || (usedPast r root || stampShared r root)

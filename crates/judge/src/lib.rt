@@ -5,7 +5,7 @@ ghost use mathlib.Core.Path.{_≡_};
 ghost use Prim.Native.Nat.{_≤_};
 ghost use lib.ListN.{length};
 ghost use Rattle.record.specs.Words.{records};
-ghost use Rattle.judge.specs.BadParts.{oddLeast, rootBad, badParts};
+ghost use Rattle.judge.specs.BadParts.{oddLeast, rootFails, badParts};
 use path::Sizes;
 use path::leaves;
 use record::RECORD_WORDS;
@@ -30,13 +30,13 @@ fn is_least_odd(n: u64, next: Stamp, c: u64, least: Record) -> bool
 // What BadCard asks of the root, in one pass over its slots, one over the places past them, and the stamps.
 fn is_root_bad(root: &[u64], r: usize, n: u64, next: Stamp, c: u64, least: Record) -> bool
     requires { ⌜ (r ≤ 64) × (length (now root) ≡ 256) ⌝ }
-    ensures { λ b. ⌜ b ≡ rootBad r (records (now (root .entry))) n next c least ⌝ }
+    ensures { λ b. ⌜ b ≡ rootFails r (records (now (root .entry))) n next c least ⌝ }
 {
     let end = RECORD_WORDS * r;
-    if !root::slots_fine(&root[..end], r, n, next, least, c) {
+    if !root::slots_fine(&root[..end], n, next, least, c) {
         return true;
     }
-    if !root::all_dummies(&root[end..], ROOT_PLACES - r) {
+    if !root::all_dummies(&root[end..]) {
         return true;
     }
     stamps::stamp_twice(&root[..end])

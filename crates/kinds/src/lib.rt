@@ -16,6 +16,9 @@ pub const KIND_EXTRACT: u64 = 2;
 
 pub const KIND_DELETE: u64 = 3;
 
+// How many words a request is: its kind and five fields.
+const REQUEST_WORDS: usize = 6;
+
 // The request of a kind and five fields; of a kind above 3 it makes none.
 pub fn waiting_of(kind: u64, a: u64, b: u64, c: u64, d: u64, e: u64) -> Waiting
     ensures { λ w. ⌜ w ≡ waitingOf kind a b c d e ⌝ }
@@ -42,7 +45,7 @@ pub fn waiting_of(kind: u64, a: u64, b: u64, c: u64, d: u64, e: u64) -> Waiting
 }
 
 // Its kind and its five fields, 0 where the kind has fewer.
-pub fn request_words(waiting: Waiting) -> [u64; 6]
+pub fn request_words(waiting: Waiting) -> [u64; REQUEST_WORDS]
     ensures { λ r. ⌜ r ≡ requestWords waiting ⌝ }
 {
     match waiting {

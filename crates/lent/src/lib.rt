@@ -16,7 +16,7 @@ ghost use Rattle.lent.specs.Handed.{handed};
 mod afresh;
 
 use afresh::start_over;
-use card::Answer;
+use answers::Answer;
 use card::Card;
 use record::Leaf;
 use record::Stamp;

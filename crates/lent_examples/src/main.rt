@@ -4,7 +4,7 @@
 // Before the first accepted start the card is the one that a refused start hands back. Stands on `lender`, `rack` and `replies`.
 mod requests;
 
-use card::Answer;
+use answers::Answer;
 use card::Card;
 use card::Done;
 use libc::STDOUT_FILENO;

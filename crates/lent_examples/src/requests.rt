@@ -1,6 +1,6 @@
 // One request after the other: begin, fetch, finish, store, each call on the card where it is lent.
 use crate::told;
-use card::Answer;
+use answers::Answer;
 use card::Card;
 use card::Done;
 use record::Leaf;

@@ -1,3 +1,3 @@
 -- The laws of the desk's lines that crates above cite.
 pub mod SaysLaws
-pub mod TableLaws
+pub mod LinesLaws

@@ -4,11 +4,11 @@ use mathlib.Core.Bool.{Bool, true, false}
 use mathlib.Core.List.{List, [], _∷_}
 use mathlib.Core.Path.{_≡_, refl, sym, _∙_}
 use native.Mathlib.Omega.{arith}
-use lib.Dec.{eqb, eqb·suc-zero}
+use lib.Dec.{eqb·suc-zero}
 use lib.ListN.{length, take, drop}
 use borrow.Author.Tests.{le-leb, lt-leb}
 use Rattle.lines.specs.declared.Line.the-variants.{Unreadable, Min, Extract}
-use Rattle.fields.specs.Pieces.{before, same}
+use Rattle.fields.specs.Pieces.{before, sameBytes}
 use Rattle.fields.specs.Behind.{behind, allNumbers, Numbered}
 use Rattle.fields.proofs.PiecesLaws.{before-fits, before-head, fields-first, behind-none, behind-next}
 use Rattle.fields.proofs.NumbersLaws.{all-written}
@@ -58,11 +58,11 @@ module _ (line : List ℕ) where
         rw (le-leb (length line) 128 l, fields-first line, n, before-head 32 line)
 
 module _ (k : Kind) (ks : List Kind) (word : List ℕ) (fields : List (List ℕ)) where
-  pub said-first : same word (k .word) ≡ true → saidBy (k ∷ ks) word fields ≡ saidOf k fields
+  pub said-first : sameBytes word (k .word) ≡ true → saidBy (k ∷ ks) word fields ≡ saidOf k fields
   unfolding saidBy
   said-first e = rw e
 
-  pub said-later : same word (k .word) ≡ false → saidBy (k ∷ ks) word fields ≡ saidBy ks word fields
+  pub said-later : sameBytes word (k .word) ≡ false → saidBy (k ∷ ks) word fields ≡ saidBy ks word fields
   unfolding saidBy
   said-later e = rw e
 

@@ -7,7 +7,7 @@ use lib.ListN.{length, getD}
 use Rattle.record.specs.declared.Leaf.{Leaf}
 use Rattle.record.specs.declared.Stamp.{Stamp}
 use Rattle.decimal.specs.Digits.{value}
-use Rattle.fields.specs.Pieces.{pieces, fieldsOf, same}
+use Rattle.fields.specs.Pieces.{pieces, fieldsOf, sameBytes}
 use Rattle.fields.specs.Behind.{allNumbers}
 use Rattle.lines.specs.declared.Line.{Line}
 use Rattle.lines.specs.declared.Line.the-variants.{Unreadable, Size, Insert, Min, Extract, Delete}
@@ -77,7 +77,7 @@ saidOf k fields = cond (eqb (length fields) (k .count) && allNumbers fields) (k 
 
 unfoldable pub saidBy : List Kind → List ℕ → List (List ℕ) → Line
 saidBy [] word fields = Unreadable
-saidBy (k ∷ ks) word fields = cond (same word (k .word)) (saidOf k fields) (saidBy ks word fields)
+saidBy (k ∷ ks) word fields = cond (sameBytes word (k .word)) (saidOf k fields) (saidBy ks word fields)
 
 abbrev pub fieldsSay : List (List ℕ) → Line
 fieldsSay [] = Unreadable

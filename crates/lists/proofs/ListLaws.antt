@@ -13,7 +13,7 @@ use Rattle.lists.specs.declared.Listed.{Listed}
 use Rattle.path.specs.Path.{number, pathBucket, siblingOf, upFrom, path}
 use Rattle.path.specs.Layout.{recordWords, bucketWords}
 use Rattle.lists.specs.BucketList.{BucketList, pairList, pathList, numbers, laid, laidFrom, Room, counts, pairCounts, pathCounts, sum, wordsMoved, moved}
-use Rattle.lists.proofs.Naming.{length-upFrom}
+use Rattle.path.proofs.LevelLaws.{length-upFrom}
 
 -- how long a path is, from level d on
 pub length-path : (h : ℕ) (q : Leaf) (d : ℕ) → length (path h q d) ≡ suc h - d

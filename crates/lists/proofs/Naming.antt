@@ -1,28 +1,15 @@
 -- Numbers written one after the other into a list: what a loop that names buckets level by level has done so far.
 -- Assumes nothing.
-use Prim.Native.Nat.{ℕ, zero, suc, _+_, _-_, _≤_, _<_}
+use Prim.Native.Nat.{ℕ, suc, _+_, _-_, _≤_, _<_}
 use mathlib.Core.Path.{_≡_, refl, sym, ap, _∙_}
-use mathlib.Core.List.{List, [], _∷_, _++_, map, map-map, append-assoc, append-nil}
+use mathlib.Core.List.{List, _++_, map, map-map, append-assoc, append-nil}
 use native.Mathlib.Omega.{arith}
-use native.Mathlib.Numerals.{add-one}
-use lib.ListN.{length, set, take, drop, length-set, length-map, length-append, take-append-drop}
+use lib.ListN.{length, set, take, length-set, length-map, length-append, take-append-drop}
 use lib.Seq.{length-take-le, set-at, drop-cons}
 use Rattle.record.specs.declared.Leaf.{Leaf}
 use Rattle.path.specs.Path.{number, pathBucket, siblingOf, upFrom, path}
+use Rattle.path.proofs.LevelLaws.{length-upFrom, map-upFrom-next}
 use Rattle.lists.specs.BucketList.{laidFrom}
-
-pub length-upFrom : (a n : ℕ) → length (upFrom a n) ≡ n
-unfolding upFrom
-length-upFrom a zero = refl
-length-upFrom a (suc n) = ap suc (length-upFrom (suc a) n)
-
--- f of the numbers that follow each other, the last one apart
-pub map-upFrom-next : (f : ℕ → ℕ) (a n : ℕ) → map f (upFrom a (suc n)) ≡ map f (upFrom a n) ++ (f (a + n) ∷ [])
-unfolding upFrom
-map-upFrom-next f a zero = let e : a + 0 ≡ a = omega arith in rw e
-map-upFrom-next f a (suc n) =
-    let e : a + suc n ≡ suc a + n = omega arith in
-    rw e (ap (λ (l : List ℕ). f a ∷ l) (map-upFrom-next f (suc a) n))
 
 -- A loop over the levels from `from` on has named those before `level` with f, from place `at` of the list on.
 pub record Naming (f : ℕ → ℕ) (from at end : ℕ) (old now : List ℕ) (i level : ℕ) : Type 0 where

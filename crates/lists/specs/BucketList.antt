@@ -14,6 +14,10 @@ pub record BucketList : Type 0 where
   pub whole : List Bucket
   pub least : List Bucket
 
+-- "the list is empty"
+abbrev pub noBuckets : BucketList
+noBuckets = record { whole = []; least = [] }
+
 -- Insert: "the first leaf's path at levels 1 to h, then the second's, all whole; then at levels 2 to h the siblings of
 -- the first and of the second path, least record only"
 unfoldable pub pairList : ℕ → Leaf → Leaf → BucketList

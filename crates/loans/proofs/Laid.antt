@@ -17,11 +17,11 @@ use denote.Struct.Laws as LL
 use denote.Enum.Laws as EL
 use Rattle.card.specs.declared.Card.{Card}
 use Rattle.card.specs.declared.Done.{Done}
-use Rattle.card.specs.declared.Answer.{Answer}
+use Rattle.answers.specs.declared.Answer.{Answer}
 use Rattle.card.proofs.Card as T
 use Rattle.card.proofs.Card.Laws as T′
-use Rattle.card.proofs.Answer as N
-use Rattle.card.proofs.Answer.Laws as N′
+use Rattle.answers.proofs.Answer as N
+use Rattle.answers.proofs.Answer.Laws as N′
 use Rattle.card.proofs.Done as D
 use Rattle.card.proofs.Done.Laws as D′
 

@@ -3,17 +3,13 @@
 use Prim.Native.Nat.{ℕ, zero, suc, _+_, _*_, _≤_, _<_}
 use mathlib.Core.List.{List, [], _∷_, _++_, map, append-assoc}
 use mathlib.Core.Path.{_≡_, refl, _∙_}
-use native.Mathlib.Nat.{suc-mul, mul-le-mul-left}
+use native.Mathlib.Nat.{suc-mul}
 use native.Mathlib.Omega.{arith}
 use lib.ListN.{length, take, drop, length-append}
 use lib.Seq.{take-at, drop-at, drop-drop}
-use Rattle.record.specs.declared.Leaf.{Leaf}
-use Rattle.record.specs.declared.Record.{Record}
 use Rattle.record.proofs.WordsLaws.{words-length}
 use Rattle.path.specs.Layout.{Contents, contentsWords, bucketWords}
 use Rattle.path.specs.Path.{upFrom}
-use Rattle.least.specs.Least.{slotsAt, mendedAt, mended}
-use Rattle.least.proofs.LeastLaws.{length-slots}
 use Rattle.mend.specs.Mended.{pathWords}
 
 pub length-contents : (z : ℕ) (b : Contents) → length (b .slots) ≡ z → length (contentsWords b) ≡ bucketWords z
@@ -51,17 +47,3 @@ module _ (z : ℕ) (f : ℕ → Contents) where
       let here : a + suc i ≡ suc a + i = omega arith in
       rw (past, ← drop-drop, append-assoc, drop-at (contentsWords (f a)) _ (bucketWords z) one, here)
       (bucket-part (suc a) n i more (λ d k m. each d (omega arith) (omega arith)) (omega arith))
-
--- ---- a mended path
-module _ (h z r : ℕ) (q : Leaf) (way : List Record) (beside : ℕ → Record) (whole : r + z * h ≤ length way) where
-  each : (d : ℕ) → 1 ≤ d → d < 1 + h → length (slotsAt r z way d) ≡ z
-  each d k l = length-slots r z way d k (omega (arith, mul-le-mul-left {m = d} {n = h} z (omega arith)))
-
-  pub length-mended : length (pathWords (mended h q (slotsAt r z way) beside)) ≡ h * bucketWords z
-  length-mended = length-buckets z (mendedAt h q (slotsAt r z way) beside) 1 h each
-
-  -- parts are counted from 0, levels from 1
-  pub mended-part : (i : ℕ) (more : List ℕ) → i < h
-      → take (bucketWords z) (drop (i * bucketWords z) (pathWords (mended h q (slotsAt r z way) beside) ++ more))
-      ≡ contentsWords (mendedAt h q (slotsAt r z way) beside (1 + i))
-  mended-part i more l = bucket-part z (mendedAt h q (slotsAt r z way) beside) 1 h i more each l

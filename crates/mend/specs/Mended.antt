@@ -32,6 +32,7 @@ pub record Mended (s : Sizes) (q : Leaf) (way beside : List Record) (path : List
 pub record MendRoom (s : Sizes) (q : Leaf) (path w beside : List ℕ) : Type 0 where
   pub height : s .h ≤ 16
   pub width : s .z ≤ 5
+  pub roots : s .r ≤ 64
   pub leaf : q .0 < leavesOf (s .h)
   pub buckets : length path ≡ s .h * bucketWords (s .z)
   pub slots : length w ≡ 4 * (s .r + s .z * s .h)

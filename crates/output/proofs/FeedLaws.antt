@@ -18,13 +18,13 @@ use Rattle.decimal.proofs.PrintLaws.{laid-in-room}
 use Rattle.frames.specs.declared.Taken.{Taken}
 use Rattle.frames.specs.Framing.{endedIn, begunBy, Takes}
 use Rattle.frames.proofs.TakeLaws.{takes-room, takes-some}
-use Rattle.frames.proofs.FramingLaws.{Keeps, keeps-nothing, keeps-more, keeps-says, free-before, ended, has, past}
-use Rattle.output.specs.Output.{State, replyTo, behind, repliesTo, behindAll}
-use Rattle.output.specs.Room.{replyMost, takenOf, heldOf}
+use Rattle.frames.proofs.FramingLaws.{Keeps, keeps-nothing, keeps-more, keeps-says, free-before, ended, has, past, all-open}
+use Rattle.output.specs.Output.{State, replyTo, behindLine, repliesTo, behindAll}
+use Rattle.output.specs.Room.{replyMost, pieceTaken, heldOf}
 use Rattle.output.proofs.OutputLaws.{replies-joined, behind-joined, replies-one, behind-one}
 use Rattle.output.proofs.ShortLaws.{reply-short}
 use Rattle.output.proofs.TakenLaws.{taken-none, taken-stops, taken-ended, taken-open}
-use Rattle.output.proofs.HeardLaws.{heard-more, begun-anew, all-open, heard-same, begun-more, none-left}
+use Rattle.output.proofs.HeardLaws.{heard-more, begun-anew, heard-same, begun-more, none-left}
 
 -- after `taken` bytes: the state, the held line and the bytes printed are those of the lines heard, and the rest will be taken as
 -- from here
@@ -38,13 +38,10 @@ pub record Feeding (s₀ : State) (begun₀ chunk out₀ : List ℕ) (s : State)
   pub count : written ≡ length (repliesTo s₀ (endedIn begun₀ (take taken chunk)))
   pub done : out ≡ repliesTo s₀ (endedIn begun₀ (take taken chunk)) ++ drop written out₀
   pub rest :
-      takenOf s₀ begun₀ (length out₀) chunk
-      ≡ taken + takenOf s (begunBy begun₀ (take taken chunk)) (length out₀ - written) (drop taken chunk)
+      pieceTaken s₀ begun₀ (length out₀) chunk
+      ≡ taken + pieceTaken s (begunBy begun₀ (take taken chunk)) (length out₀ - written) (drop taken chunk)
 
 -- ---- where it begins
-none-more-than : (n : ℕ) → n ≡ 0 + n
-none-more-than n = omega arith
-
 pub feeding-starts :
     (desk : Desk) (tree line : List ℕ) (held : ℕ) (chunk out : List ℕ) → length line ≡ 129 → held ≤ 129
     → Feeding (record { desk = desk; tree = tree }) (take held line) chunk out (record { desk = desk; tree = tree }) line held 0 0 out
@@ -65,7 +62,7 @@ feeding-starts desk tree line held chunk out long small =
       fits = omega arith;
       count = refl;
       done = refl;
-      rest = rw z (none-more-than (takenOf s (take held line) (length out) chunk));
+      rest = rw z (omega arith);
     }
 
 module _
@@ -128,7 +125,7 @@ module _
               laid-in-room (replyTo s whole) (drop written out₀) (q .bytes) part (rw (says, rest-out) at (p .bytes))
               (omega (arith, reply-short (stepOf (s .desk) (lineSays whole) (s .tree) .turn .reply), length-drop written out₀))
 
-          state-next : (record { desk = q .desk; tree = tree′ }) ≡ behind s whole
+          state-next : (record { desk = q .desk; tree = tree′ }) ≡ behindLine s whole
           state-next = rw (p .state, p .lent, says)
 
           heard : endedIn begun₀ (take (r .next) chunk) ≡ endedIn begun₀ (take taken chunk) ++ whole ∷ []
@@ -143,7 +140,7 @@ module _
               ∙ ap (λ (l : List ℕ). repliesTo s₀ (endedIn begun₀ (take taken chunk)) ++ l)
               (ap (λ (x : State). repliesTo x (whole ∷ [])) (sym (f .state)) ∙ replies-one s whole)
 
-          behind-next : behindAll s₀ (endedIn begun₀ (take (r .next) chunk)) ≡ behind s whole
+          behind-next : behindAll s₀ (endedIn begun₀ (take (r .next) chunk)) ≡ behindLine s whole
           behind-next =
               ap (behindAll s₀) heard
               ∙ behind-joined s₀ (endedIn begun₀ (take taken chunk)) (whole ∷ [])
@@ -151,11 +148,11 @@ module _
               ∙ behind-one s whole
 
           taken-next :
-              takenOf s (begunBy begun₀ (take taken chunk)) (length out₀ - written) (drop taken chunk)
+              pieceTaken s (begunBy begun₀ (take taken chunk)) (length out₀ - written) (drop taken chunk)
               ≡ suc (length (before 10 (drop taken chunk)))
-              + takenOf (behind s whole) [] (length out₀ - written - length (replyTo s whole)) (drop (r .next) chunk)
+              + pieceTaken (behindLine s whole) [] (length out₀ - written - length (replyTo s whole)) (drop (r .next) chunk)
           taken-next =
-              ap (takenOf s (begunBy begun₀ (take taken chunk)) (length out₀ - written))
+              ap (pieceTaken s (begunBy begun₀ (take taken chunk)) (length out₀ - written))
               (ended (drop taken chunk) (has begun₀ chunk taken line line′ held r t e))
               ∙ taken-ended s (length out₀ - written) m (begunBy begun₀ (take taken chunk)) (before 10 (drop taken chunk)) _
               (free-before (drop taken chunk))
@@ -186,8 +183,8 @@ module _
               }
 
     -- ---- what it comes to
-    pub none-more : (ltb taken (length chunk) && leb replyMost (length out - written)) ≡ false → takenOf s (begunBy begun₀ (take taken chunk)) (length out₀ - written) (drop taken chunk) ≡ 0
-    none-more = (elim (ltb taken (length chunk)) as (λ b. ltb taken (length chunk) ≡ b → (b && leb replyMost (length out - written)) ≡ false → takenOf s (begunBy begun₀ (take taken chunk)) (length out₀ - written) (drop taken chunk) ≡ 0) [
+    pub none-more : (ltb taken (length chunk) && leb replyMost (length out - written)) ≡ false → pieceTaken s (begunBy begun₀ (take taken chunk)) (length out₀ - written) (drop taken chunk) ≡ 0
+    none-more = (elim (ltb taken (length chunk)) as (λ b. ltb taken (length chunk) ≡ b → (b && leb replyMost (length out - written)) ≡ false → pieceTaken s (begunBy begun₀ (take taken chunk)) (length out₀ - written) (drop taken chunk) ≡ 0) [
       | true ↦ λ e g. taken-stops s _ _ _ (omega (arith, leb-false replyMost (length out - written) g, feeding-room))
       | false ↦ λ e g.
           rw (drop-of-length-le chunk {i = taken} (ltb-false taken (length chunk) e)) (taken-none s (begunBy begun₀ (take taken chunk)) (length out₀ - written))

@@ -8,22 +8,22 @@ use lib.ListN.{length, take, drop, length-drop, drop-of-length-le}
 use lib.Seq.{take-add, take-all, take-append-add}
 use Rattle.fields.specs.Pieces.{before}
 use Rattle.frames.specs.declared.Taken.{Taken}
-use Rattle.frames.specs.Framing.{endedIn, begunBy, hasEnd, Takes, takenOf as pieceOf}
-use Rattle.frames.proofs.FramingLaws.{free-before, ended, unended, has, ended-joined, begun-joined, ended-first, begun-first, ended-none, begun-none}
+use Rattle.frames.specs.Framing.{endedIn, begunBy, hasEnd, Takes, takenOf}
+use Rattle.frames.proofs.FramingLaws.{free-before, ended, has, all-open, ended-joined, begun-joined, ended-first, begun-first, ended-none, begun-none}
 
 module _
     (begun chunk : List ℕ) (from : ℕ) (buffer after : List ℕ) (held : ℕ) (r : Taken)
     (t : Takes buffer held chunk from r after)
   where
-    head : take (r .next) chunk ≡ take from chunk ++ take (pieceOf (drop from chunk)) (drop from chunk)
-    head = ap (λ (n : ℕ). take n chunk) (t .next) ∙ take-add from (pieceOf (drop from chunk)) chunk
+    head : take (r .next) chunk ≡ take from chunk ++ take (takenOf (drop from chunk)) (drop from chunk)
+    head = ap (λ (n : ℕ). take n chunk) (t .next) ∙ take-add from (takenOf (drop from chunk)) chunk
 
     module _ (e : r .ended ≡ true) where
       ended-head : take (r .next) chunk ≡ take from chunk ++ (before 10 (drop from chunk) ++ 10 ∷ [])
       ended-head =
           let bs = drop from chunk in
           let h = has begun chunk from buffer after held r t e in
-          let n : pieceOf bs ≡ length (before 10 bs) + 1 = rw h in
+          let n : takenOf bs ≡ length (before 10 bs) + 1 = rw h in
           head
           ∙ ap (λ (l : List ℕ). take from chunk ++ l)
           (ap (λ (k : ℕ). take k bs) n
@@ -48,15 +48,15 @@ module _
           ∙ begun-first (begunBy begun (take from chunk)) (before 10 (drop from chunk)) [] (free-before (drop from chunk))
 
     module _ (e : r .ended ≡ false) where
-      pub all-open : before 10 (drop from chunk) ≡ drop from chunk
-      all-open = unended (drop from chunk) (sym (t .ended) ∙ e)
+      abbrev whole : before 10 (drop from chunk) ≡ drop from chunk
+      whole = all-open begun chunk from buffer after held r t e
 
       open-head : take (r .next) chunk ≡ take from chunk ++ before 10 (drop from chunk)
       open-head =
           let bs = drop from chunk in
           let h : hasEnd bs ≡ false = sym (t .ended) ∙ e in
-          let n : length bs ≤ pieceOf bs = rw all-open (omega arith) in
-          head ∙ ap (λ (l : List ℕ). take from chunk ++ l) (take-all (pieceOf bs) bs n ∙ sym all-open)
+          let n : length bs ≤ takenOf bs = rw whole (omega arith) in
+          head ∙ ap (λ (l : List ℕ). take from chunk ++ l) (take-all (takenOf bs) bs n ∙ sym whole)
 
       pub heard-same : endedIn begun (take (r .next) chunk) ≡ endedIn begun (take from chunk)
       heard-same =
@@ -75,5 +75,5 @@ module _
       pub none-left : drop (r .next) chunk ≡ []
       none-left =
           let bs = drop from chunk in
-          let n : length bs ≤ pieceOf bs = rw all-open (omega arith) in
+          let n : length bs ≤ takenOf bs = rw whole (omega arith) in
           drop-of-length-le chunk {i = r .next} (omega (arith, t .next, length-drop from chunk))

@@ -8,8 +8,8 @@ use lib.Dec.{ltb}
 use lib.ListN.{length, length-append}
 use Rattle.decimal.specs.Digits.{fewest, decimal}
 use Rattle.frames.specs.Answer.{markOf, answerLine}
-use Rattle.card.specs.declared.Answer.{Answer}
-use Rattle.card.specs.declared.Answer.the-variants.{Started, Listed, Least, Withdrawn, Inserted, Extracted, Deleted, Refused}
+use Rattle.answers.specs.declared.Answer.{Answer}
+use Rattle.answers.specs.declared.Answer.the-variants.{Started, Listed, Least, Withdrawn, Inserted, Extracted, Deleted, Refused}
 use Rattle.steps.specs.declared.Reply.{Reply}
 use Rattle.steps.specs.declared.Reply.the-variants.{Unreadable, Said}
 use Rattle.said.specs.Said.{numbersOf}
@@ -48,7 +48,7 @@ zero-short ns l = omega (arith, next-long 0 ns, zero-one, numbers-short ns)
 answer-short : (a : Answer) → length (answerLine (numbersOf a)) ≤ replyMost
 answer-short Started = zero-short [] (omega arith)
 answer-short (Listed whole least) = zero-short [] (omega arith)
-answer-short (Least r) = zero-short (r .key ∷ r .value ∷ r .label .0 ∷ r .stamp .0 ∷ 0 ∷ []) (omega arith)
+answer-short (Least r words) = zero-short (r .key ∷ r .value ∷ r .label .0 ∷ r .stamp .0 ∷ words ∷ []) (omega arith)
 answer-short Withdrawn = zero-short [] (omega arith)
 answer-short (Inserted label stamp words) = zero-short (label .0 ∷ stamp .0 ∷ words ∷ []) (omega arith)
 answer-short (Extracted r words) = zero-short (r .key ∷ r .value ∷ r .label .0 ∷ r .stamp .0 ∷ words ∷ []) (omega arith)

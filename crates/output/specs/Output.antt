@@ -7,7 +7,7 @@ use lib.ListN.{replicate}
 use Rattle.card.specs.Calls.{zeroCard}
 use Rattle.lines.specs.Says.{linesOf, lineSays}
 use Rattle.steps.specs.declared.Desk.{Desk}
-use Rattle.steps.specs.Step.{Left, stepOf}
+use Rattle.steps.specs.Step.{LineLeft, stepOf}
 use Rattle.replies.specs.Reply.{bytesOf}
 
 -- the desk between two lines, and the words that are lent to it
@@ -16,23 +16,23 @@ pub record State : Type 0 where
   pub tree : List ℕ
 
 -- a line: what is printed for it, and the state behind it
-abbrev pub leftBy : State → List ℕ → Left
-leftBy s line = stepOf (s .desk) (lineSays line) (s .tree)
+abbrev pub leftOver : State → List ℕ → LineLeft
+leftOver s line = stepOf (s .desk) (lineSays line) (s .tree)
 
 abbrev pub replyTo : State → List ℕ → List ℕ
-replyTo s line = bytesOf (leftBy s line .turn .reply)
+replyTo s line = bytesOf (leftOver s line .turn .reply)
 
-abbrev pub behind : State → List ℕ → State
-behind s line = record { desk = leftBy s line .turn .desk; tree = leftBy s line .tree }
+abbrev pub behindLine : State → List ℕ → State
+behindLine s line = record { desk = leftOver s line .turn .desk; tree = leftOver s line .tree }
 
 -- lines, one after another
 unfoldable pub repliesTo : State → List (List ℕ) → List ℕ
 repliesTo s [] = []
-repliesTo s (line ∷ lines) = replyTo s line ++ repliesTo (behind s line) lines
+repliesTo s (line ∷ lines) = replyTo s line ++ repliesTo (behindLine s line) lines
 
 unfoldable pub behindAll : State → List (List ℕ) → State
 behindAll s [] = s
-behindAll s (line ∷ lines) = behindAll (behind s line) lines
+behindAll s (line ∷ lines) = behindAll (behindLine s line) lines
 
 -- an input: its lines, each answered in its turn. "A line ends at byte 10", "the last line may lack its line end"; nothing behind the
 -- last byte 10 is no line.

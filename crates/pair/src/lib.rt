@@ -3,7 +3,6 @@
 mod seating;
 
 pub use seating::seat;
-ghost use mathlib.Core.Path.{_≡_};
 ghost use Prim.Native.Nat.{_*_};
 ghost use Rattle.record.specs.Words.{records};
 ghost use Rattle.gather.specs.Shown.{slotsShown};

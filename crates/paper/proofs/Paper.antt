@@ -32,15 +32,15 @@ use Rattle.copies.specs.Copy.{stored}
 use Rattle.decimal.specs.Digits.{digits, fewest, valueFrom}
 use Rattle.decimal.specs.Field.{allDigits, isNumber}
 use Rattle.fields.specs.Behind.{behind, allNumbers}
-use Rattle.fields.specs.Pieces.{pieces, before, same as sameBytes}
+use Rattle.fields.specs.Pieces.{pieces, before, sameBytes}
 use Rattle.lines.specs.Says.{saidOf, saidBy, lineSays}
 use Rattle.frames.specs.Answer.{answerLine}
 use Rattle.rounds.specs.Round.{rackRefusal, finishRefusal, treeLeft, roundRefusal, roundDone, roundTree}
-use Rattle.steps.specs.Step.{wordsOf as turnWords, sizedTo, askedFor, minOf, stepOf}
-use Rattle.paper.specs.Run.{opened, given, stated}
+use Rattle.steps.specs.Step.{treeWordsUsed, sizedTo, askedFor, minOf, stepOf}
+use Rattle.paper.specs.Run.{startedDesk, given, stated}
 use Rattle.paper.specs.Table.{table}
 
-pub paper : given opened table ≡ stated table
+pub paper : given startedDesk table ≡ stated table
 unfolding flatMap every reals bears stampTwice noLater smallerBy smallestBy same isDummy known isProper mayStand
     records wordsOf pairList pathList sum wordsMoved pathBucket holds siblingOf upFrom path between treeIn inRange
     firstGiven strangeSlot usedPast stampShared rootRecords greaterThanSome rootFull seek fits movedTo pull pulls
@@ -49,6 +49,6 @@ unfolding flatMap every reals bears stampTwice noLater smallerBy smallestBy same
     leastAfter seated oddLeast badParts removal insertion removalDamaged insertionDamaged orRefused badCard startTable
     listOf beginTable minTable leftBy damagedBy entryTable finishedBy insertRows extractRows deleteRows requestRows
     waits anyOutside stored digits fewest valueFrom allDigits isNumber behind pieces before sameBytes allNumbers saidOf
-    saidBy lineSays answerLine rackRefusal finishRefusal treeLeft roundRefusal roundDone roundTree turnWords sizedTo
+    saidBy lineSays answerLine rackRefusal finishRefusal treeLeft roundRefusal roundDone roundTree treeWordsUsed sizedTo
     askedFor minOf stepOf given stated
 paper = refl

@@ -1,13 +1,13 @@
 -- P1 to P9 on whole bytes: the paper's input, with its line ends, gives the paper's whole output. Assumes nothing.
 use Prim.Native.Nat.{ℕ}
-use mathlib.Core.List.{List, [], _∷_, _++_, map}
+use mathlib.Core.List.{List, [], _∷_, map}
 use mathlib.Core.Path.{_≡_, refl, ap, _∙_}
 use Rattle.fields.specs.Pieces.{pieces}
 use Rattle.lines.specs.Says.{linesOf}
-use Rattle.steps.specs.Step.{Left}
+use Rattle.steps.specs.Step.{LineLeft}
 use Rattle.replies.specs.Reply.{bytesOf}
-use Rattle.output.specs.Output.{State, repliesTo, opened as fresh, wholeOutput}
-use Rattle.paper.specs.Run.{Row, opened, nextOf, given, stated, inputOf, printsOf}
+use Rattle.output.specs.Output.{repliesTo, opened, wholeOutput}
+use Rattle.paper.specs.Run.{Row, startedDesk, nextOf, given, stated, inputOf, printsOf}
 use Rattle.paper.specs.Table.{table}
 use Rattle.paper.proofs.Paper.{paper}
 
@@ -16,7 +16,7 @@ lineOf r = r .line
 
 -- what rows print is what their lines print
 rows-printed :
-    (l : Left) (rows : List Row) → given l rows ≡ stated rows
+    (l : LineLeft) (rows : List Row) → given l rows ≡ stated rows
     → repliesTo (record { desk = l .turn .desk; tree = l .tree }) (map lineOf rows) ≡ printsOf rows
 unfolding given stated repliesTo printsOf
 rows-printed l [] e = refl
@@ -30,4 +30,4 @@ unfolding pieces inputOf
 table-lines = refl
 
 pub whole-paper : wholeOutput (inputOf table) ≡ printsOf table
-whole-paper = ap (repliesTo fresh) table-lines ∙ rows-printed opened table paper
+whole-paper = ap (repliesTo opened) table-lines ∙ rows-printed startedDesk table paper

@@ -9,7 +9,7 @@ use Rattle.copies.specs.Copy.{bucketPart}
 use Rattle.request.specs.declared.Waiting.{Waiting}
 use Rattle.card.specs.Calls.{listOf}
 use Rattle.lines.specs.Says.{lineSays}
-use Rattle.steps.specs.Step.{Left, nothing, stepOf}
+use Rattle.steps.specs.Step.{LineLeft, nothing, stepOf}
 use Rattle.replies.specs.Reply.{bytesOf}
 use Rattle.output.specs.Output.{shut}
 
@@ -17,18 +17,18 @@ use Rattle.output.specs.Output.{shut}
 pub record Row : Type 0 where
   pub line : List ℕ
   pub prints : List ℕ
-  pub look : Left → List ℕ
+  pub look : LineLeft → List ℕ
   pub shows : List ℕ
 
 -- the desk before the first line, with 8,192 words lent
-abbrev pub opened : Left
-opened = nothing shut (replicate 8192 0)
+abbrev pub startedDesk : LineLeft
+startedDesk = nothing shut (replicate 8192 0)
 
-abbrev pub nextOf : Left → Row → Left
+abbrev pub nextOf : LineLeft → Row → LineLeft
 nextOf l r = stepOf (l .turn .desk) (lineSays (r .line)) (l .tree)
 
 -- what is given, row by row, and what the paper states
-unfoldable pub given : Left → List Row → List (List ℕ)
+unfoldable pub given : LineLeft → List Row → List (List ℕ)
 given l [] = []
 given l (r ∷ rs) = bytesOf (nextOf l r .turn .reply) ∷ r .look (nextOf l r) ∷ given (nextOf l r) rs
 
@@ -47,16 +47,20 @@ printsOf [] = []
 printsOf (r ∷ rs) = r .prints ++ printsOf rs
 
 -- ---- what may be looked at
-abbrev pub none : Left → List ℕ
+abbrev pub none : LineLeft → List ℕ
 none l = []
 
 -- the words of a bucket's slots, Z being 1
-abbrev pub slotsOfBucket : ℕ → Left → List ℕ
+abbrev pub slotsOfBucket : ℕ → LineLeft → List ℕ
 slotsOfBucket n l = drop recordWords (bucketPart 1 (l .tree) (bucket n))
 
+-- those of one bucket, then those of another
+abbrev pub slotsOfBoth : ℕ → ℕ → LineLeft → List ℕ
+slotsOfBoth m n l = slotsOfBucket m l ++ slotsOfBucket n l
+
 -- how many buckets a request asks for whole and how many for least records, and their numbers
-abbrev pub asks : Waiting → Left → List ℕ
-asks w l =
+abbrev pub asksFor : Waiting → LineLeft → List ℕ
+asksFor w l =
     length (listOf (l .turn .desk .card) w .whole)
     ∷ length (listOf (l .turn .desk .card) w .least)
     ∷ numbers (listOf (l .turn .desk .card) w)

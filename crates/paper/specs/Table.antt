@@ -2,8 +2,9 @@
 use Prim.Native.Nat.{ℕ}
 use mathlib.Core.List.{List, [], _∷_}
 use Rattle.record.specs.declared.Leaf.{Leaf}
+use Rattle.record.specs.Standing.{dummyKey}
 use Rattle.request.specs.declared.Waiting.the-variants.{Insert, Extract}
-use Rattle.paper.specs.Run.{Row, none, slotsOfBucket, asks}
+use Rattle.paper.specs.Run.{Row, none, slotsOfBucket, slotsOfBoth, asksFor}
 
 abbrev pub leaf : ℕ → Leaf
 leaf n = record { 0 = n }
@@ -14,7 +15,7 @@ abbrev pub row1 : Row
 row1 = record {
   line = 115 ∷ 105 ∷ 122 ∷ 101 ∷ 32 ∷ 50 ∷ 32 ∷ 49 ∷ 32 ∷ 49 ∷ 32 ∷ 49 ∷ 54 ∷ [];
   prints = 48 ∷ 10 ∷ [];
-  look = asks (Insert 7 70 (leaf 0) (leaf 1) (leaf 2));
+  look = asksFor (Insert 7 70 (leaf 0) (leaf 1) (leaf 2));
   shows = 4 ∷ 2 ∷ 2 ∷ 5 ∷ 3 ∷ 6 ∷ 4 ∷ 7 ∷ [];
 }
 
@@ -54,18 +55,18 @@ abbrev pub row5 : Row
 row5 = record {
   line = 109 ∷ 105 ∷ 110 ∷ [];
   prints = 48 ∷ 32 ∷ 53 ∷ 32 ∷ 53 ∷ 48 ∷ 32 ∷ 48 ∷ 32 ∷ 49 ∷ 32 ∷ 48 ∷ 10 ∷ [];
-  look = asks Extract;
+  look = asksFor Extract;
   shows = 2 ∷ 2 ∷ 2 ∷ 4 ∷ 3 ∷ 5 ∷ [];
 }
 
--- P6; P11: "and moves key 7 to bucket 4"
+-- P6; P11: "and moves key 7 to bucket 4": bucket 2, where it stood, holds the dummy
 -- extract | 0 5 50 0 1 40
 abbrev pub row6 : Row
 row6 = record {
   line = 101 ∷ 120 ∷ 116 ∷ 114 ∷ 97 ∷ 99 ∷ 116 ∷ [];
   prints = 48 ∷ 32 ∷ 53 ∷ 32 ∷ 53 ∷ 48 ∷ 32 ∷ 48 ∷ 32 ∷ 49 ∷ 32 ∷ 52 ∷ 48 ∷ 10 ∷ [];
-  look = slotsOfBucket 4;
-  shows = 7 ∷ 70 ∷ 0 ∷ 0 ∷ [];
+  look = slotsOfBoth 2 4;
+  shows = dummyKey ∷ 0 ∷ 0 ∷ 0 ∷ 7 ∷ 70 ∷ 0 ∷ 0 ∷ [];
 }
 
 -- P7

@@ -1,7 +1,10 @@
 // One frame and its reply: docs/PROBE.md. Each function has the room for one slice of the frame, and lends what it has read to the
 // next.
 use crate::play;
+use crate::play::ASKED_WORDS;
 use crate::words;
+use image::CARD_WORDS;
+use told::ANSWER_WORDS;
 
 const LIST_MOST: usize = 128;
 
@@ -9,8 +12,11 @@ const WORDS_MOST: usize = 1024;
 
 const TREE_MOST: usize = 8192;
 
+// What stands in every word of the answer before a call, so that a word that the call leaves alone is seen in the reply.
+const OLD_ANSWER: u64 = u64::MAX;
+
 // A reply as far as the slices.
-fn reply(number: u64, answer: &[u64; 6], card: &[u64; 272]) -> bool {
+fn reply(number: u64, answer: &[u64; ANSWER_WORDS], card: &[u64; CARD_WORDS]) -> bool {
     if !words::write(&[number]) {
         return false;
     }
@@ -31,31 +37,31 @@ fn reply_slices(list: &[u64], buckets: &[u64], tree: &[u64]) -> bool {
 }
 
 fn answer_card(
-    asked: &[u64; 9],
-    card: &mut [u64; 272],
+    asked: &[u64; ASKED_WORDS],
+    card: &mut [u64; CARD_WORDS],
     list: &mut [u64],
     buckets: &mut [u64],
 ) -> bool {
-    let mut answer = [0u64; 6];
+    let mut answer = [OLD_ANSWER; ANSWER_WORDS];
     let number = play::on_card(asked, card, &mut answer, list, buckets);
     reply(number, &answer, card)
 }
 
 fn answer_rack(
-    asked: &[u64; 9],
-    card: &[u64; 272],
+    asked: &[u64; ASKED_WORDS],
+    card: &[u64; CARD_WORDS],
     list: &[u64],
     buckets: &mut [u64],
     tree: &mut [u64],
 ) -> bool {
-    let mut answer = [0u64; 6];
+    let mut answer = [OLD_ANSWER; ANSWER_WORDS];
     let number = play::on_rack(asked, &mut answer, list, buckets, tree);
     reply(number, &answer, card)
 }
 
 fn answer_call(
-    asked: &[u64; 9],
-    card: &mut [u64; 272],
+    asked: &[u64; ASKED_WORDS],
+    card: &mut [u64; CARD_WORDS],
     list: &mut [u64],
     buckets: &mut [u64],
     tree: &mut [u64],
@@ -67,8 +73,8 @@ fn answer_call(
 }
 
 fn with_tree(
-    asked: &[u64; 9],
-    card: &mut [u64; 272],
+    asked: &[u64; ASKED_WORDS],
+    card: &mut [u64; CARD_WORDS],
     list: &mut [u64],
     buckets: &mut [u64],
     n: usize,
@@ -88,8 +94,8 @@ fn with_tree(
 }
 
 fn with_words(
-    asked: &[u64; 9],
-    card: &mut [u64; 272],
+    asked: &[u64; ASKED_WORDS],
+    card: &mut [u64; CARD_WORDS],
     list: &mut [u64],
     n: usize,
     t: usize,
@@ -105,7 +111,13 @@ fn with_words(
     with_tree(asked, card, list, buckets, t)
 }
 
-fn with_list(asked: &[u64; 9], card: &mut [u64; 272], n: usize, w: usize, t: usize) -> bool {
+fn with_list(
+    asked: &[u64; ASKED_WORDS],
+    card: &mut [u64; CARD_WORDS],
+    n: usize,
+    w: usize,
+    t: usize,
+) -> bool {
     if n > LIST_MOST {
         return false;
     }
@@ -119,14 +131,14 @@ fn with_list(asked: &[u64; 9], card: &mut [u64; 272], n: usize, w: usize, t: usi
 
 // One frame; false where the program is to end: no whole frame is left, or it asks for what no call has.
 pub(crate) fn answer_one() -> bool {
-    let mut asked = [0u64; 9];
+    let mut asked = [0u64; ASKED_WORDS];
     if !words::read(&mut asked) {
         return false;
     }
     if !play::is_op(asked[0]) {
         return false;
     }
-    let mut card = [0u64; 272];
+    let mut card = [0u64; CARD_WORDS];
     if !words::read(&mut card) {
         return false;
     }

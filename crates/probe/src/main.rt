@@ -2,7 +2,7 @@
 // left. docs/PROBE.md has the frames. For comparing the proved code with another program, call by call.
 //
 // Nothing here is promised but that it is safe and ends: no contract can say what is read or written. Stands on
-// `driver`.
+// `image`, `told`, `driver`, `io` and `libc`.
 mod frame;
 mod play;
 mod words;

@@ -1,4 +1,10 @@
 // One call: the op of a frame, on the state that the frame brought.
+use image::CARD_WORDS;
+use told::ANSWER_WORDS;
+
+// The op and its arguments.
+pub(crate) const ASKED_WORDS: usize = 9;
+
 const START: u64 = 1;
 
 const INSERT: u64 = 2;
@@ -33,7 +39,12 @@ pub(crate) fn is_on_card(op: u64) -> bool {
 }
 
 // A call that is lent a list, or nothing. The op is word 0 of what is asked, its arguments are words 1 to 8.
-fn begin(asked: &[u64; 9], card: &mut [u64; 272], answer: &mut [u64; 6], list: &mut [u64]) -> u64 {
+fn begin(
+    asked: &[u64; ASKED_WORDS],
+    card: &mut [u64; CARD_WORDS],
+    answer: &mut [u64; ANSWER_WORDS],
+    list: &mut [u64],
+) -> u64 {
     let op = asked[0];
     let a = asked[1];
     let b = asked[2];
@@ -52,7 +63,12 @@ fn begin(asked: &[u64; 9], card: &mut [u64; 272], answer: &mut [u64; 6], list: &
 }
 
 // A call that is lent the fetched words, or nothing.
-fn close(op: u64, card: &mut [u64; 272], answer: &mut [u64; 6], words: &mut [u64]) -> u64 {
+fn close(
+    op: u64,
+    card: &mut [u64; CARD_WORDS],
+    answer: &mut [u64; ANSWER_WORDS],
+    words: &mut [u64],
+) -> u64 {
     if op == FIND_MIN {
         return driver::nwidarap_find_min(card, answer);
     }
@@ -64,9 +80,9 @@ fn close(op: u64, card: &mut [u64; 272], answer: &mut [u64; 6], words: &mut [u64
 
 // A call on a card.
 pub(crate) fn on_card(
-    asked: &[u64; 9],
-    card: &mut [u64; 272],
-    answer: &mut [u64; 6],
+    asked: &[u64; ASKED_WORDS],
+    card: &mut [u64; CARD_WORDS],
+    answer: &mut [u64; ANSWER_WORDS],
     list: &mut [u64],
     words: &mut [u64],
 ) -> u64 {
@@ -79,8 +95,8 @@ pub(crate) fn on_card(
 
 // A call on a rack.
 pub(crate) fn on_rack(
-    asked: &[u64; 9],
-    answer: &mut [u64; 6],
+    asked: &[u64; ASKED_WORDS],
+    answer: &mut [u64; ANSWER_WORDS],
     list: &[u64],
     words: &mut [u64],
     tree: &mut [u64],

@@ -2,8 +2,7 @@
 -- list names a whole bucket twice. Assumes nothing.
 use Prim.Native.Nat.{ℕ, zero, suc, _+_, _*_, _-_, _/_, _≤_, _<_}
 use mathlib.Core.Bool.{true, false}
-use mathlib.Core.List.{List, [], _∷_, _++_, map, map-append, append-assoc}
-use mathlib.Core.List.{List·Memᴰ, List·Memᴰ·head, List·Memᴰ·tail, List·Memᴰ·not-nil, List·Memᴰ·append-cases}
+use mathlib.Core.List.{List, [], _∷_, _++_, map, map-append, append-assoc, List·Memᴰ, List·Memᴰ·head, List·Memᴰ·tail, List·Memᴰ·append-cases}
 use mathlib.Core.Logic.{⊎-elim}
 use mathlib.Core.Path.{_≡_, refl, sym, ap, _∙_}
 use mathlib.Mathlib.Data.Bool.Basic.{or-eq-false-eq-eq-false-and-eq-false as neither}
@@ -17,6 +16,7 @@ use Rattle.path.specs.Sizes.{leavesOf, treeIn}
 use Rattle.path.specs.Layout.{treeWords}
 use Rattle.lists.specs.BucketList.{BucketList, pairList, pathList, numbers, laid, counts}
 use Rattle.path.proofs.PathLaws.{path-in-tree, sibling-in-tree, levels-apart, pair-apart}
+use Rattle.path.proofs.LevelLaws.{at-level}
 use Rattle.lists.proofs.Naming.{path-named, siblings-named}
 use Rattle.refusal.specs.Refusal.{firstGiven}
 use Rattle.rack.specs.Answers.{wordsFor, outside, anyOutside, copyTable}
@@ -33,18 +33,12 @@ module _ (l : BucketList) (places : List ℕ) where
   split : laid l places ≡ map number (l .whole) ++ (map number (l .least) ++ drop (length (numbers l)) places)
   split = rw (map-append, append-assoc)
 
-  whole-places : length (map number (l .whole)) ≡ length (l .whole)
-  whole-places = length-map (l .whole) number
-
-  least-places : length (map number (l .least)) ≡ length (l .least)
-  least-places = length-map (l .least) number
-
   pub listed-laid : listed (laid l places) (counts l .whole) (counts l .least) ≡ l
   listed-laid =
       let whole : take (length (l .whole)) (laid l places) ≡ map number (l .whole) =
-      rw split (take-at _ _ _ whole-places) in
+      rw split (take-at _ _ _ (length-map (l .whole) number)) in
       let least : take (length (l .least)) (drop (length (l .whole)) (laid l places)) ≡ map number (l .least) =
-      rw (split, drop-at _ _ _ whole-places) (take-at _ _ _ least-places) in
+      rw (split, drop-at _ _ _ (length-map (l .whole) number)) (take-at _ _ _ (length-map (l .least) number)) in
       let w = ap (map bucket) whole ∙ numbered (l .whole) in
       let s = ap (map bucket) least ∙ numbered (l .least) in
       λ i. record { whole = w i; least = s i }
@@ -112,24 +106,14 @@ pair-list-inside h first second some lf ls =
     (inside-append h _ _ (siblings-inside h first lf 2 (omega arith) (omega arith)) (siblings-inside h second ls 2 (omega arith) (omega arith))))
 
 -- ---- begin's lists name no whole bucket twice
--- a bucket of some levels is at one of them
 module _ (f : ℕ → Bucket) where
-  at-level :
-      (d n : ℕ) (b : Bucket) → List·Memᴰ b (map f (upFrom d n)) → (e : ℕ) × (d ≤ e) × (e < d + n) × (b ≡ f e)
-  unfolding upFrom
-  at-level d zero b m = absurd (List·Memᴰ·not-nil m)
-  at-level d (suc n) b (List·Memᴰ·head i) = (d, omega arith, omega arith, i)
-  at-level d (suc n) b (List·Memᴰ·tail m) =
-      let a = at-level (suc d) n b m in
-      (a .0, omega arith, omega arith, a .3)
-
   levels-distinct :
       (h : ℕ) → ((d e : ℕ) → d < e → e ≤ h → number (f d) < number (f e)) → (d n : ℕ) → d + n ≤ suc h
       → Distinct (map f (upFrom d n))
   unfolding upFrom
   levels-distinct h up d zero l = none
   levels-distinct h up d (suc n) l =
-      more (λ m. let a = at-level (suc d) n (f d) m in
+      more (λ m. let a = at-level f (suc d) n (f d) m in
       omega (arith, up d (a .0) (a .1) (omega arith), ap number (a .3)))
       (levels-distinct h up (suc d) n (omega arith))
 

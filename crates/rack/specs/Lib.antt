@@ -1,4 +1,3 @@
 -- What a reader must believe of the rack.
-pub mod Refusals
 pub mod Answers
 pub mod Promises

@@ -4,7 +4,7 @@ use mathlib.Core.Path.{_≡_}
 use mathlib.Core.List.{List}
 use Rattle.path.specs.Layout.{freshTree}
 use Rattle.rack.specs.declared.Answer.{Answer}
-use Rattle.rack.specs.Refusals.{afterwards}
+use Rattle.refusal.specs.Refusal.{afterwards}
 use Rattle.rack.specs.Answers.{answerNumber, fillRefusal, copyRefusal}
 use Rattle.copies.specs.Copy.{listed, fetched, stored}
 

@@ -2,10 +2,14 @@
 // refusals 1, 11 and 14 of "Refusal numbers".
 //
 // Every call tests all that it was given before it writes the first word. A bucket comes in as a plain number, as the
-// paper's rack is given one: until it has been tested it may be no bucket at all. Stands on `record`, `path` and `copies`.
+// paper's rack is given one: until it has been tested it may be no bucket at all. Stands on `record`, `path`, `refusal` and
+// `copies`.
 ghost use mathlib.Core.Path.{_≡_};
 ghost use Rattle.rack.specs.Answers.{answerNumber, isDone};
 ghost use Rattle.rack.specs.Promises.{Fills, Fetches, Stores};
+use refusal::BAD_BUCKET;
+use refusal::BAD_SIZE;
+use refusal::SHORT_ROOM;
 
 mod refusing;
 
@@ -24,9 +28,9 @@ impl Answer {
     {
         match self {
             Answer::Done => 0,
-            Answer::BadSize => 1,
-            Answer::ShortRoom => 11,
-            Answer::BadBucket => 14,
+            Answer::BadSize => BAD_SIZE,
+            Answer::ShortRoom => SHORT_ROOM,
+            Answer::BadBucket => BAD_BUCKET,
         }
     }
 

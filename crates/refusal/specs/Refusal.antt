@@ -1,5 +1,5 @@
 -- The refusal numbers and their order: document 01, "Refusal numbers". Assumes nothing.
-use Prim.Native.Nat.{ℕ}
+use Prim.Native.Nat.{ℕ, zero, suc}
 use mathlib.Core.Bool.{Bool, cond}
 use mathlib.Core.List.{List, [], _∷_}
 
@@ -17,3 +17,13 @@ row n b = record { number = n; given = b }
 unfoldable pub firstGiven : List Refusal → ℕ
 firstGiven [] = 0
 firstGiven (x ∷ xs) = cond (x .given) (x .number) (firstGiven xs)
+
+-- "each where it applies": the first of two refusals, 0 for none
+abbrev pub orElse : ℕ → ℕ → ℕ
+orElse zero n = n
+orElse (suc m) n = suc m
+
+-- "card and lent slices are as before": what stands after a call with this refusal, 0 for none
+abbrev pub afterwards : {A : Type 0} → ℕ → A → A → A
+afterwards zero done before = done
+afterwards (suc n) done before = before

@@ -4,7 +4,7 @@ use Prim.Native.Nat.{ℕ, zero, suc, _*_, _+_, _≤_}
 use mathlib.Core.Bool.{Bool, true, false}
 use mathlib.Core.List.{List, [], _∷_, List·Memᴰ, List·Memᴰ·head, List·Memᴰ·tail}
 use mathlib.Core.Logic.{inl, inr}
-use mathlib.Core.Path.{_≡_, refl, sym, _∙_}
+use mathlib.Core.Path.{_≡_, refl, sym, ap, _∙_}
 use mathlib.Mathlib.Data.Bool.Basic.{dichotomy}
 use native.Mathlib.Omega.{arith}
 use lib.ListN.{length}
@@ -16,7 +16,7 @@ use Rattle.way.specs.Evict.{seek}
 use Rattle.clearing.specs.Removal.{named, found, removed}
 use Rattle.sound.specs.Fetched.{pathFetched}
 use Rattle.damage.specs.Damaged.{pathDamaged}
-use Rattle.damage.proofs.Found.{shown-extract-by-name}
+use Rattle.damage.proofs.Found.{shown-extract-by-name, shown-extract-found}
 use Rattle.judge.specs.BadParts.{stampOf}
 use Rattle.settle.specs.declared.Settled.{Settled}
 use Rattle.settle.specs.Left.{Left, pathWay, removal, removalDamaged}
@@ -66,3 +66,13 @@ module _ (s : Sizes) (t c : ℕ) (root : List Record) (m : Record) (ws : List �
       → Settles root m c (removalDamaged s t c root m ws (m .label) (same m)) (removal s c root ws (m .label) (same m)) moved before after out
   extract-settles moved before after out p =
       settles-same root m c _ _ _ _ moved before after out damaged-same (λ f. left-same (fetched-good fetchedBad refl f)) p
+
+  -- and the record that it takes out was found: "wherever it is on the path"
+  pub extract-found : removalDamaged s t c root m ws (m .label) (same m) ≡ false → removal s c root ws (m .label) (same m) .found ≡ true
+  unfolding removal
+  extract-found f =
+      let good = fetched-good fetchedBad refl f in
+      let k = room .fetched in
+      let given : 4 * (s .h * (s .z + 1)) ≤ length ws = omega arith in
+      sym (ap (λ (l : Left). l .found) (left-same good))
+      ∙ shown-extract-found (s .h) (s .z) (s .r) root ws full given (stampOf t) m (room .parts .sizes .height .0) proper good

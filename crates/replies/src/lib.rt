@@ -1,5 +1,5 @@
-// A line of bytes in, the desk's reply in bytes out: document 01, "What the desk sees". Stands on `lines`, `turns`, `frames` and `said`.
-ghost use mathlib.Core.Path.{_≡_};
+// A line of bytes in, the desk's reply in bytes out: document 01, "What the desk sees". Stands on `decimal`, `lines`, `steps`,
+// `turns`, `frames` and `said`.
 ghost use Rattle.decimal.specs.Promises.{Laid};
 ghost use Rattle.replies.specs.Reply.{bytesOf, Prints};
 use steps::Desk;

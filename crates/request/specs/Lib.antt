@@ -1,2 +1,2 @@
--- What a reader must believe of a request: when it is refused, and how long its list is.
+-- What a reader must believe of a request: when it is refused.
 pub mod Tables

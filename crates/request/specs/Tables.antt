@@ -1,5 +1,5 @@
 -- When a request is refused: document 01, "Refusal numbers", numbers 4 to 10, in their order. A request that waits and one
--- that is begun are judged by the same table, as if none waited; and how many numbers its list has. Assumes nothing.
+-- that is begun are judged by the same table, as if none waited. Assumes nothing.
 use Prim.Native.Nat.{ℕ, _/_}
 use mathlib.Core.Bool.{Bool, true, false, not, _||_}
 use mathlib.Core.List.{List, [], _∷_}
@@ -9,9 +9,7 @@ use Rattle.record.specs.declared.Stamp.{Stamp}
 use Rattle.record.specs.declared.Record.{Record}
 use Rattle.record.specs.Standing.{dummyKey, known}
 use Rattle.path.specs.declared.sizes.Sizes.{Sizes}
-use Rattle.lists.specs.declared.Listed.{Listed as Counts}
 use Rattle.path.specs.Sizes.{leavesOf}
-use Rattle.lists.specs.BucketList.{pairCounts, pathCounts}
 use Rattle.root.specs.Root.{rootFull}
 use Rattle.refusal.specs.Refusal.{Refusal, row}
 use Rattle.request.specs.declared.Waiting.{Waiting}
@@ -58,10 +56,3 @@ waits Nothing = false
 waits (Insert key value label first second) = true
 waits Extract = true
 waits (Delete label stamp) = true
-
--- how many numbers its list has, whole and least-record only, by the height alone
-unfoldable pub countsFor : ℕ → Waiting → Counts
-countsFor h Nothing = record { whole = 0; least = 0 }
-countsFor h (Insert key value label first second) = pairCounts h
-countsFor h Extract = pathCounts h
-countsFor h (Delete label stamp) = pathCounts h

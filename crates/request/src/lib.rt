@@ -1,15 +1,12 @@
-// A request: document 01, "A request, step by step". What waits on a card, when a request is refused with a number from 4 to
-// 10 ("Refusal numbers"), and how much room its list and its words need. The root goes in as words, four to a place, so that
-// nothing copies 64 records.
-// Stands on `record`, `path`, `lists`, `refusal`, `root`.
+// A request: document 01, "A request, step by step". What waits on a card, and when a request is refused with a number from 4
+// to 10 ("Refusal numbers"). The root goes in as words, four to a place, so that nothing copies 64 records.
+// Stands on `record`, `path`, `refusal`, `root`.
 ghost use mathlib.Core.Path.{_≡_};
-ghost use Prim.Native.Nat.{_≤_, _*_};
+ghost use Prim.Native.Nat.{_≤_};
 ghost use lib.ListN.{length};
 ghost use Rattle.record.specs.Words.{records};
-ghost use Rattle.lists.specs.BucketList.{fetchedFor};
 ghost use Rattle.refusal.specs.Refusal.{firstGiven};
-ghost use Rattle.request.specs.Tables.{insertRows, extractRows, deleteRows, requestRows, waits, countsFor};
-use lists::Listed;
+ghost use Rattle.request.specs.Tables.{insertRows, extractRows, deleteRows, requestRows, waits};
 use path::Sizes;
 use path::leaves;
 use record::DUMMY_KEY;
@@ -146,31 +143,4 @@ pub fn why_request(root: &[u64], sizes: Sizes, t: u64, c: u64, request: Waiting)
         Waiting::Extract => why_extract(sizes, t, c),
         Waiting::Delete { label, stamp } => why_delete(sizes, t, c, label, stamp),
     }
-}
-
-// For crates above: how many numbers the list of a request has.
-pub fn counts_for(sizes: Sizes, request: Waiting) -> Listed
-    requires { ⌜ (1 ≤ sizes .h) × (sizes .h ≤ 16) ⌝ }
-    ensures { λ r. ⌜ r ≡ countsFor (sizes .h) request ⌝ }
-{
-    match request {
-        Waiting::Nothing => Listed { whole: 0, least: 0 },
-        Waiting::Insert {
-            key: _,
-            value: _,
-            label: _,
-            first: _,
-            second: _,
-        } => lists::pair_counts(sizes),
-        Waiting::Extract => lists::path_counts(sizes),
-        Waiting::Delete { label: _, stamp: _ } => lists::path_counts(sizes),
-    }
-}
-
-// For crates above: the words that are fetched for a list of so many numbers.
-pub fn fetched_for(counts: Listed, z: usize) -> usize
-    requires { ⌜ (z ≤ 5) × ((counts .whole ≤ 32) × (counts .least ≤ 32)) ⌝ }
-    ensures { λ n. ⌜ n ≡ fetchedFor z counts ⌝ }
-{
-    counts.whole * (RECORD_WORDS * (z + 1)) + counts.least * RECORD_WORDS
 }

@@ -1,5 +1,5 @@
 -- A pass over slots that stand in words, place by place. Assumes nothing.
-use Prim.Native.Nat.{ℕ, _+_, _*_, _≤_, _<_}
+use Prim.Native.Nat.{ℕ, _+_, _/_, _≤_, _<_}
 use mathlib.Core.Bool.{Bool, true, false, _||_, and-false}
 use mathlib.Core.List.{List}
 use mathlib.Core.Path.{_≡_, refl, sym, ap, _∙_}
@@ -13,97 +13,73 @@ use Rattle.record.specs.Standing.{dummy, isDummy, isProper, mayStand}
 use Rattle.record.specs.Order.{noLater}
 use Rattle.record.specs.Many.{every, reals}
 use Rattle.record.specs.Words.{recordAt, records}
-use Rattle.record.proofs.PlacesLaws.{every-next, every-fails, every-done, reals-dummy, reals-next}
-use Rattle.record.proofs.WordsLaws.{records-at, records-length}
+use Rattle.record.proofs.PlacesLaws.{pass-starts, pass-turns, pass-fails, pass-ends, reals-dummy, reals-next}
+use Rattle.record.proofs.WordsLaws.{records-at, records-count}
 use Rattle.root.specs.Root.{slotsFine}
 
 -- a record that is the dummy, or no earlier than `least`
 unfoldable pub noEarlier : Record → Record → Bool
 noEarlier least x = isDummy x || noLater least x
 
--- what the pass of `slots_fine` over n places of some words knows at place i
-pub record Fine (ws : List ℕ) (n leaves : ℕ) (next : Stamp) (least : Record) (i count : ℕ) : Type 0 where
-  pub place : i ≤ n
+-- what the pass of `slots_fine` over the places of some words knows at place i
+pub record Fine (ws : List ℕ) (leaves : ℕ) (next : Stamp) (least : Record) (i count : ℕ) : Type 0 where
+  pub place : i ≤ length ws / 4
   pub few : count ≤ i
   pub stand : every (mayStand leaves next) (take i (records ws)) ≡ true
   pub after : every (noEarlier least) (take i (records ws)) ≡ true
   pub counted : count ≡ reals (take i (records ws))
 
-module _ (ws : List ℕ) (n : ℕ) (long : length ws ≡ 4 * n) where
-  count-places : length (records ws) ≡ n
-  count-places = records-length ws n long
+module _ (ws : List ℕ) (leaves : ℕ) (next : Stamp) (least : Record) where
+  pub fine-starts : Fine ws leaves next least 0 0
+  unfolding reals
+  fine-starts =
+      record { place = omega arith; few = omega arith; stand = pass-starts _; after = pass-starts _; counted = refl }
 
-  -- a pass that tests each place
-  module _ (f : Record → Bool) where
-    pub pass-starts : every f (take 0 (records ws)) ≡ true
-    unfolding every
-    pass-starts = refl
+  module _ (i count : ℕ) (h : i < length ws / 4) where
+    pub fine-dummy : Fine ws leaves next least i count → isDummy (recordAt ws i) ≡ true → Fine ws leaves next least (i + 1) count
+    unfolding mayStand noEarlier
+    fine-dummy p e =
+        record {
+          place = omega arith;
+          few = omega (arith, p .few);
+          stand = pass-turns _ ws i h (p .stand) (rw e);
+          after = pass-turns _ ws i h (p .after) (rw e);
+          counted =
+              p .counted
+              ∙ sym (reals-dummy (records ws) i dummy (omega (arith, records-count ws)) (rw (records-at ws i dummy (omega arith)) e));
+        }
 
-    pub pass-turns :
-        (i : ℕ) → i < n → every f (take i (records ws)) ≡ true → f (recordAt ws i) ≡ true
-        → every f (take (i + 1) (records ws)) ≡ true
-    pass-turns i h e t =
-        every-next f (records ws) i dummy (omega (arith, count-places)) e (rw (records-at ws i dummy (omega arith)) t)
+    pub fine-record :
+        Fine ws leaves next least i count → isDummy (recordAt ws i) ≡ false → isProper leaves next (recordAt ws i) ≡ true
+        → noLater least (recordAt ws i) ≡ true → Fine ws leaves next least (i + 1) (count + 1)
+    unfolding mayStand noEarlier
+    fine-record p e f g =
+        record {
+          place = omega arith;
+          few = omega (arith, p .few);
+          stand = pass-turns _ ws i h (p .stand) (rw (e, f));
+          after = pass-turns _ ws i h (p .after) (rw (e, g));
+          counted =
+              ap (λ m. m + 1) (p .counted)
+              ∙ sym (reals-next (records ws) i dummy (omega (arith, records-count ws)) (rw (records-at ws i dummy (omega arith)) e));
+        }
 
-    pub pass-fails : (i : ℕ) → i < n → f (recordAt ws i) ≡ false → every f (records ws) ≡ false
-    pass-fails i h t =
-        every-fails f (records ws) i dummy (omega (arith, count-places)) (rw (records-at ws i dummy (omega arith)) t)
+    -- a place that is not fine, and so the slots are not
+    pub strange-place :
+        (live : ℕ) → isDummy (recordAt ws i) ≡ false → isProper leaves next (recordAt ws i) ≡ false
+        → slotsFine leaves next least live (records ws) ≡ false
+    unfolding slotsFine mayStand
+    strange-place live e f = rw (pass-fails (mayStand leaves next) ws i h (rw (e, f)))
 
-    pub pass-ends : (i : ℕ) → n ≤ i → every f (take i (records ws)) ≡ true → every f (records ws) ≡ true
-    pass-ends i h e = every-done f (records ws) i (omega (arith, count-places)) e
-
-  -- the pass of `slots_fine`
-  module _ (leaves : ℕ) (next : Stamp) (least : Record) where
-    pub fine-starts : Fine ws n leaves next least 0 0
-    unfolding reals
-    fine-starts =
-        record { place = omega arith; few = omega arith; stand = pass-starts _; after = pass-starts _; counted = refl }
-
-    module _ (i count : ℕ) (h : i < n) where
-      pub fine-dummy : Fine ws n leaves next least i count → isDummy (recordAt ws i) ≡ true → Fine ws n leaves next least (i + 1) count
-      unfolding mayStand noEarlier
-      fine-dummy p e =
-          record {
-            place = omega arith;
-            few = omega (arith, p .few);
-            stand = pass-turns _ i h (p .stand) (rw e);
-            after = pass-turns _ i h (p .after) (rw e);
-            counted =
-                p .counted
-                ∙ sym (reals-dummy (records ws) i dummy (omega (arith, count-places)) (rw (records-at ws i dummy (omega arith)) e));
-          }
-
-      pub fine-record :
-          Fine ws n leaves next least i count → isDummy (recordAt ws i) ≡ false → isProper leaves next (recordAt ws i) ≡ true
-          → noLater least (recordAt ws i) ≡ true → Fine ws n leaves next least (i + 1) (count + 1)
-      unfolding mayStand noEarlier
-      fine-record p e f g =
-          record {
-            place = omega arith;
-            few = omega (arith, p .few);
-            stand = pass-turns _ i h (p .stand) (rw (e, f));
-            after = pass-turns _ i h (p .after) (rw (e, g));
-            counted =
-                ap (λ m. m + 1) (p .counted)
-                ∙ sym (reals-next (records ws) i dummy (omega (arith, count-places)) (rw (records-at ws i dummy (omega arith)) e));
-          }
-
-      -- a place that is not fine, and so the slots are not
-      pub strange-place :
-          (live : ℕ) → isDummy (recordAt ws i) ≡ false → isProper leaves next (recordAt ws i) ≡ false
-          → slotsFine leaves next least live (records ws) ≡ false
-      unfolding slotsFine mayStand
-      strange-place live e f = rw (pass-fails (mayStand leaves next) i h (rw (e, f)))
-
-      pub earlier-place :
-          (live : ℕ) → isDummy (recordAt ws i) ≡ false → noLater least (recordAt ws i) ≡ false
-          → slotsFine leaves next least live (records ws) ≡ false
-      unfolding slotsFine noEarlier
-      earlier-place live e f = rw (pass-fails (noEarlier least) i h (rw (e, f)), and-false (every (mayStand leaves next) (records ws)))
-
-    pub fine-ends :
-        (i count live : ℕ) → Fine ws n leaves next least i count → n ≤ i → slotsFine leaves next least live (records ws) ≡ leb count live
+    pub earlier-place :
+        (live : ℕ) → isDummy (recordAt ws i) ≡ false → noLater least (recordAt ws i) ≡ false
+        → slotsFine leaves next least live (records ws) ≡ false
     unfolding slotsFine noEarlier
-    fine-ends i count live p h =
-        let whole = take-all i (records ws) (omega (arith, count-places)) in
-        rw (pass-ends (mayStand leaves next) i h (p .stand), pass-ends (noEarlier least) i h (p .after), p .counted, whole)
+    earlier-place live e f = rw (pass-fails (noEarlier least) ws i h (rw (e, f)), and-false (every (mayStand leaves next) (records ws)))
+
+  pub fine-ends :
+      (i count live : ℕ) → Fine ws leaves next least i count → length ws / 4 ≤ i → slotsFine leaves next least live (records ws) ≡ leb count live
+  unfolding slotsFine noEarlier
+  fine-ends i count live p h =
+      let whole = take-all i (records ws) (omega (arith, records-count ws)) in
+      rw (pass-ends (mayStand leaves next) ws i h (p .stand), pass-ends (noEarlier least) ws i h (p .after), p .counted, whole)

@@ -8,21 +8,15 @@ ghost use Rattle.record.specs.Standing.{isDummy};
 ghost use Rattle.record.specs.Many.{every};
 ghost use Rattle.record.specs.Words.{records};
 ghost use Rattle.root.specs.Root.{slotsFine};
+use record::RECORD_WORDS;
 use record::Record;
 use record::Stamp;
 
-// For crates above: one pass over n slots. Each may stand, no record comes before `least`, and at most `live` are records.
-pub fn slots_fine(
-    slots: &[u64],
-    n: usize,
-    leaves: u64,
-    next: Stamp,
-    least: Record,
-    live: u64,
-) -> bool
-    requires { ⌜ length (now slots) ≡ 4 * n ⌝ }
+// For crates above: one pass over the slots. Each may stand, no record comes before `least`, and at most `live` are records.
+pub fn slots_fine(slots: &[u64], leaves: u64, next: Stamp, least: Record, live: u64) -> bool
     ensures { λ r. ⌜ r ≡ slotsFine leaves next least live (records (now (slots .entry))) ⌝ }
 {
+    let n = slots.len() / RECORD_WORDS;
     let mut count: u64 = 0;
     let mut i = 0;
     while i < n {
@@ -41,11 +35,11 @@ pub fn slots_fine(
     count <= live
 }
 
-// For crates above: whether all n places are the dummy.
-pub fn all_dummies(places: &[u64], n: usize) -> bool
-    requires { ⌜ length (now places) ≡ 4 * n ⌝ }
+// For crates above: whether all places are the dummy.
+pub fn all_dummies(places: &[u64]) -> bool
     ensures { λ r. ⌜ r ≡ every isDummy (records (now (places .entry))) ⌝ }
 {
+    let n = places.len() / RECORD_WORDS;
     let mut i = 0;
     while i < n {
         if !Record::read(places, i).is_dummy() {

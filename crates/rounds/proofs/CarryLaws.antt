@@ -13,10 +13,12 @@ use Rattle.refusal.specs.Refusal.{firstGiven}
 use Rattle.settle.specs.Left.{wordsLeft}
 use Rattle.card.specs.declared.Card.{Card}
 use Rattle.card.specs.declared.Done.{Done}
-use Rattle.card.specs.Answers.{numberOf, refused, orRefused}
+use Rattle.answers.specs.Answers.{numberOf}
+use Rattle.card.specs.Answers.{refused, orRefused}
 use Rattle.card.specs.Finish.{leftBy, finishTable, finished, Finishes}
-use Rattle.rounds.specs.Round.{orElse, wordPlaces, rackRefusal, shown, finishRefusal, carryRefusal, treeLeft, Carries}
-use Rattle.rounds.proofs.RoundLaws.{or-first, or-second, round-refused, round-done}
+use Rattle.rounds.specs.Round.{wordPlaces, rackRefusal, shown, finishRefusal, carryRefusal, treeLeft, Carries}
+use Rattle.refusal.proofs.RefusalLaws.{or-first, or-second}
+use Rattle.rounds.proofs.RoundLaws.{round-refused, round-done}
 
 module _ (k b : Card) (list : List ℕ) (n : Counts) (tree : List ℕ) where
   abbrev l : BucketList

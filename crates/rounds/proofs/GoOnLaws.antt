@@ -7,9 +7,11 @@ use Rattle.lists.specs.BucketList.{BucketList}
 use Rattle.copies.specs.Copy.{listed}
 use Rattle.card.specs.declared.Card.{Card}
 use Rattle.card.specs.declared.Done.{Done}
-use Rattle.card.specs.Answers.{numberOf, refused}
+use Rattle.answers.specs.Answers.{numberOf}
+use Rattle.card.specs.Answers.{refused}
 use Rattle.rounds.specs.Round.{countsIn, Carries}
-use Rattle.rounds.proofs.RoundLaws.{or-first, round-refused}
+use Rattle.refusal.proofs.RefusalLaws.{or-first}
+use Rattle.rounds.proofs.RoundLaws.{round-refused}
 
 module _ (k : Card) (b : Done) (list tree : List ℕ) where
   -- the round that follows, with counts that begin answered

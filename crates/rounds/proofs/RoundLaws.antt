@@ -4,33 +4,21 @@ use mathlib.Core.List.{List}
 use mathlib.Core.Path.{_≡_, refl, sym, ap, subst, _∙_}
 use native.Mathlib.Omega.{arith}
 use lib.ListN.{length}
-use borrow.Author.Tests.{ne-eqb}
 use Rattle.lists.specs.declared.Listed.{Listed as Counts}
 use Rattle.lists.specs.BucketList.{BucketList, counts, laid}
-use Rattle.rack.specs.Refusals.{afterwards}
+use Rattle.refusal.specs.Refusal.{orElse, afterwards, firstGiven}
 use Rattle.copies.specs.Copy.{listed}
 use Rattle.rack.proofs.ListedLaws.{listed-laid}
-use Rattle.refusal.specs.Refusal.{firstGiven}
 use Rattle.card.specs.declared.Card.{Card}
 use Rattle.request.specs.declared.Waiting.{Waiting}
 use Rattle.card.specs.declared.Done.{Done}
-use Rattle.card.specs.Answers.{numberOf, refused, orRefused, Answered}
+use Rattle.answers.specs.Answers.{numberOf}
+use Rattle.card.specs.Answers.{refused, orRefused, Answered}
 use Rattle.card.specs.Calls.{withWaiting, listOf, beginTable, begun, Begins}
 use Rattle.card.specs.Finish.{finished}
+use Rattle.refusal.proofs.RefusalLaws.{or-first, left-before}
 use Rattle.card.proofs.AnswerLaws.{is-refused, is-done}
-use Rattle.rounds.specs.Round.{orElse, listPlaces, countsIn, shown, carryRefusal, treeLeft, Carries, Plays, roundRefusal, roundDone, roundTree}
-
--- ---- the first of two refusals
-pub or-first : (m n : ℕ) → (m ≡ 0 → ⊥) → orElse m n ≡ m
-or-first zero n h = absurd (h refl)
-or-first (suc m) n h = refl
-
-pub or-second : (m n : ℕ) → m ≡ 0 → orElse m n ≡ n
-or-second m n e = ap (λ (x : ℕ). orElse x n) e
-
-after-refused : (m : ℕ) (due before : List ℕ) → (m ≡ 0 → ⊥) → afterwards m due before ≡ before
-after-refused zero due before h = absurd (h refl)
-after-refused (suc m) due before h = refl
+use Rattle.rounds.specs.Round.{listPlaces, countsIn, shown, carryRefusal, treeLeft, Carries, Plays, roundRefusal, roundDone, roundTree}
 
 module _ (k : Card) (before : ℕ) (waiting : Card) (list : List ℕ) (n : Counts) (l : BucketList) (tree : List ℕ) where
   abbrev refusal : ℕ
@@ -43,7 +31,7 @@ module _ (k : Card) (before : ℕ) (waiting : Card) (list : List ℕ) (n : Count
       let own : d ≡ refused k refusal = r ∙ ap (refused k) (sym e) in
       record {
         call = subst (λ (x : Done). Answered k refusal (finished waiting (shown waiting list n l tree)) x) (sym own) (is-refused k refusal _ some);
-        lent = sym (after-refused refusal (treeLeft waiting list n l tree) tree some);
+        lent = sym (left-before refusal (treeLeft waiting list n l tree) tree some);
       }
 
   pub round-done : (d : Done) (after : List ℕ) → refusal ≡ 0 → d ≡ finished waiting (shown waiting list n l tree) → numberOf (d .answer) ≡ 0
@@ -59,7 +47,7 @@ module _ (k : Card) (before : ℕ) (waiting : Card) (list : List ℕ) (n : Count
       → (d ≡ refused k refusal) × (after ≡ tree)
   unfolding orRefused
   refused-round after d h p =
-      (rw (ne-eqb refusal 0 h) at (p .call .whole), p .lent ∙ after-refused refusal (treeLeft waiting list n l tree) tree h)
+      (p .call .whole ∙ left-before refusal _ _ h, p .lent ∙ left-before refusal (treeLeft waiting list n l tree) tree h)
 
 -- ---- a round of a request that begin was given
 module _ (k : Card) (w : Waiting) (tree : List ℕ) where

@@ -6,24 +6,18 @@ use mathlib.Core.Path.{_≡_}
 use lib.ListN.{length, replicate}
 use Rattle.lists.specs.declared.Listed.{Listed as Counts}
 use Rattle.lists.specs.BucketList.{BucketList, counts, laid}
-use Rattle.refusal.specs.Refusal.{firstGiven}
-use Rattle.rack.specs.Refusals.{afterwards}
+use Rattle.refusal.specs.Refusal.{firstGiven, orElse, afterwards}
 use Rattle.rack.specs.Answers.{copyRefusal}
 use Rattle.copies.specs.Copy.{fetched, stored}
 use Rattle.settle.specs.Left.{wordsLeft}
 use Rattle.card.specs.declared.Card.{Card}
 use Rattle.request.specs.declared.Waiting.{Waiting}
-use Rattle.card.specs.declared.Answer.{Answer}
-use Rattle.card.specs.declared.Answer.the-variants.{Started, Listed, Least, Withdrawn, Inserted, Extracted, Deleted, Refused}
+use Rattle.answers.specs.declared.Answer.{Answer}
+use Rattle.answers.specs.declared.Answer.the-variants.{Started, Listed, Least, Withdrawn, Inserted, Extracted, Deleted, Refused}
 use Rattle.card.specs.declared.Done.{Done}
 use Rattle.card.specs.Answers.{orRefused, Answered}
 use Rattle.card.specs.Calls.{withWaiting, listOf, beginTable}
 use Rattle.card.specs.Finish.{leftBy, finishTable, finished}
-
--- the first of two refusals, 0 for none
-abbrev pub orElse : ℕ → ℕ → ℕ
-orElse zero n = n
-orElse (suc m) n = suc m
 
 -- what is lent for the list, and for the fetched words
 abbrev pub listPlaces : List ℕ
@@ -36,7 +30,7 @@ wordPlaces = replicate 888 0
 abbrev pub countsIn : Answer → Counts
 countsIn Started = record { whole = 0; least = 0 }
 countsIn (Listed whole least) = record { whole = whole; least = least }
-countsIn (Least r) = record { whole = 0; least = 0 }
+countsIn (Least r words) = record { whole = 0; least = 0 }
 countsIn Withdrawn = record { whole = 0; least = 0 }
 countsIn (Inserted label stamp words) = record { whole = 0; least = 0 }
 countsIn (Extracted event words) = record { whole = 0; least = 0 }

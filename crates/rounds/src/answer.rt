@@ -2,7 +2,7 @@
 ghost use mathlib.Core.Path.{_≡_};
 ghost use Rattle.card.specs.Answers.{refused};
 ghost use Rattle.rounds.specs.Round.{countsIn};
-use card::Answer;
+use answers::Answer;
 use card::Card;
 use card::Done;
 use lists::Listed;
@@ -18,7 +18,7 @@ pub(crate) fn counts(answer: Answer) -> Listed
             least: least,
         },
         Answer::Started => none,
-        Answer::Least(_) => none,
+        Answer::Least { event: _, words: _ } => none,
         Answer::Withdrawn => none,
         Answer::Inserted {
             label: _,

@@ -1,6 +1,6 @@
 // A request that is begun, carried to its end: document 01, "A request, step by step". `card` is the card before its begin.
 ghost use mathlib.Core.Path.{_≡_};
-ghost use Rattle.card.specs.Answers.{numberOf};
+ghost use Rattle.answers.specs.Answers.{numberOf};
 ghost use Rattle.copies.specs.Copy.{listed};
 ghost use Rattle.rounds.specs.Round.{countsIn, Carries};
 use crate::answer;
@@ -25,7 +25,7 @@ fn carry(card: Card, begun: Card, list: &[u64], n: Listed, tree: &mut [u64]) -> 
     }
     let done = begun.finish(&mut words);
     let given = done.answer;
-    let said = values::number_of(given);
+    let said = answers::number_of(given);
     if said != 0 {
         return answer::refuse(card, said);
     }
@@ -38,7 +38,7 @@ pub(crate) fn go_on(card: Card, begun: Done, list: &[u64], tree: &mut [u64]) -> 
     ensures { λ d. ⌜ Carries card (numberOf (begun .answer)) (begun .card) (now (list .entry)) (countsIn (begun .answer)) (listed (now (list .entry)) (countsIn (begun .answer) .whole) (countsIn (begun .answer) .least)) (now (tree .entry)) (now (tree .exit)) d ⌝ }
 {
     let given = begun.answer;
-    let number = values::number_of(given);
+    let number = answers::number_of(given);
     if number != 0 {
         return answer::refuse(card, number);
     }

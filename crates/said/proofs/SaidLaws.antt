@@ -4,7 +4,7 @@ use mathlib.Core.List.{List}
 use mathlib.Core.Path.{_≡_, sym, subst}
 use Rattle.decimal.specs.Promises.{Laid}
 use Rattle.frames.specs.Answer.{answerLine}
-use Rattle.card.specs.declared.Answer.{Answer}
+use Rattle.answers.specs.declared.Answer.{Answer}
 use Rattle.said.specs.Said.{numbersOf}
 
 pub said-as :

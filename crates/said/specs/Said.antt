@@ -4,8 +4,8 @@ use Prim.Native.Nat.{ℕ}
 use mathlib.Core.Bool.{cond}
 use mathlib.Core.List.{List, [], _∷_}
 use Rattle.record.specs.declared.Record.{Record}
-use Rattle.card.specs.declared.Answer.{Answer}
-use Rattle.card.specs.declared.Answer.the-variants.{Started, Listed, Least, Withdrawn, Inserted, Extracted, Deleted, Refused}
+use Rattle.answers.specs.declared.Answer.{Answer}
+use Rattle.answers.specs.declared.Answer.the-variants.{Started, Listed, Least, Withdrawn, Inserted, Extracted, Deleted, Refused}
 
 -- "0, key, value, label, stamp, words"
 abbrev pub eventNumbers : Record → ℕ → List ℕ
@@ -15,7 +15,7 @@ eventNumbers r words = 0 ∷ r .key ∷ r .value ∷ r .label .0 ∷ r .stamp .0
 abbrev pub numbersOf : Answer → List ℕ
 numbersOf Started = 0 ∷ []
 numbersOf (Listed whole least) = 0 ∷ []
-numbersOf (Least r) = eventNumbers r 0
+numbersOf (Least r words) = eventNumbers r words
 numbersOf Withdrawn = 0 ∷ []
 numbersOf (Inserted label stamp words) = 0 ∷ label .0 ∷ stamp .0 ∷ words ∷ []
 numbersOf (Extracted r words) = eventNumbers r words

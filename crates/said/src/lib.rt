@@ -1,11 +1,12 @@
-// An answer of the card, printed: document 01, "Otherwise: 0 for size; 0, label, stamp, words for insert; ..". Stands on `card` and `frames`.
+// An answer of the card, printed: document 01, "Otherwise: 0 for size; 0, label, stamp, words for insert; ..". Stands on `record`,
+// `answers`, `decimal` and `frames`.
 ghost use mathlib.Core.Path.{_≡_};
 ghost use mathlib.Core.List.{[], _∷_};
 ghost use mathlib.Core.Bool.{cond};
 ghost use Rattle.decimal.specs.Promises.{Laid};
 ghost use Rattle.frames.specs.Answer.{answerLine};
 ghost use Rattle.said.specs.Said.{numbersOf, eventNumbers};
-use card::Answer;
+use answers::Answer;
 use record::Record;
 
 fn print_one(number: u64, out: &mut [u8]) -> usize
@@ -57,7 +58,7 @@ pub fn print_said(answer: Answer, out: &mut [u8]) -> usize
     match answer {
         Answer::Started => print_one(0, out),
         Answer::Listed { whole: _, least: _ } => print_one(0, out),
-        Answer::Least(event) => print_event(event, 0, out),
+        Answer::Least { event, words } => print_event(event, words, out),
         Answer::Withdrawn => print_one(0, out),
         Answer::Inserted {
             label,

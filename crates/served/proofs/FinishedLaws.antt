@@ -6,7 +6,6 @@ use mathlib.Core.Bool.{true, false, true≢false}
 use mathlib.Core.List.{List}
 use mathlib.Core.Path.{_≡_, refl, sym}
 use lib.ListN.{length}
-use borrow.Author.Tests.{le-ltb}
 use Rattle.record.specs.declared.Record.{Record}
 use Rattle.record.specs.Standing.{dummyKey, same}
 use Rattle.record.proofs.StandingLaws.{same-refl}
@@ -20,7 +19,9 @@ use Rattle.request.specs.Tables.{waits}
 use Rattle.card.specs.declared.Done.{Done}
 use Rattle.card.specs.Answers.{orRefused}
 use Rattle.card.specs.Calls.{listOf}
-use Rattle.card.specs.Finish.{leftBy, damagedBy, cardLeft, wordsNeeded, entryTable, finishTable, finishedBy, finished, Finishes}
+use Rattle.card.specs.Finish.{leftBy, damagedBy, cardLeft, wordsNeeded, finishTable, finishedBy, finished, Finishes}
+use Rattle.card.proofs.FinishLaws.{words-enough}
+use Rattle.card.proofs.FinishedLaws.{gives-none}
 use Rattle.served.specs.Ready.{Ready}
 use Rattle.served.specs.LiveAfter.{liveAfter}
 use Rattle.served.proofs.CallLaws.{ready-card, ready-least}
@@ -77,9 +78,8 @@ module _ (k : Card) (tree words : List ℕ) (live : List Record) (r : Ready k tr
   -- nothing is refused: neither 13, nor 3, nor 12, nor 11 where the words are those of the list or more
   pub finish-passes : WordKey (k .waiting) → waits (k .waiting) ≡ true → wordsNeeded k ≤ length (shown (k .waiting))
       → firstGiven (finishTable k (shown (k .waiting))) ≡ 0
-  unfolding entryTable firstGiven
   finish-passes word some room =
-      rw (ready-card k tree live r, some, le-ltb (length (shown (k .waiting))) (wordsNeeded k) room, finish-undamaged word)
+      gives-none k _ (words-enough k _ (ready-card k tree live r) some room) (finish-undamaged word)
 
   -- so finish hands back what it worked out, and leaves it in the words
   pub finish-done : WordKey (k .waiting) → waits (k .waiting) ≡ true → wordsNeeded k ≤ length (shown (k .waiting)) → (after : List ℕ) (answer : Done)

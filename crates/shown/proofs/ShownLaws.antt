@@ -1,5 +1,5 @@
 -- What is in the scratches once they are loaded. Assumes nothing.
-use Prim.Native.Nat.{ℕ, _+_, _*_, _-_, _≤_}
+use Prim.Native.Nat.{ℕ, _+_, _*_, _-_}
 use mathlib.Core.List.{List, [], _∷_, _++_}
 use mathlib.Core.Path.{_≡_, ap, _∙_}
 use native.Mathlib.Omega.{arith}
@@ -17,7 +17,7 @@ use Rattle.gather.proofs.ShownLaws.{siblings-length}
 use Rattle.gather.proofs.LoadedLaws.{way-loaded}
 use Rattle.shown.specs.WayRoom.{WayRoom}
 use Rattle.shown.specs.PathShown.{PathShown, PathRoom}
-use Rattle.shown.specs.PairShown.{SiblingRoom, SiblingsBelow, PairShown, PairShownRoom}
+use Rattle.shown.specs.PairShown.{SiblingRoom, SiblingsBelow, PairShown}
 
 -- the root's slots, then those of n whole buckets, in a scratch just as long
 pub way-shown :

@@ -57,11 +57,8 @@ closes-some s tree later out printed n r long some e p =
     let shown : take n (s .line) ≡ openLine s =
     rw e (sym (take-min (s .held) 129 (s .line)) ∙ ap (take (s .held)) all) in
     let last : lastOf (openLine s) ≡ openLine s ∷ [] =
-    last-some (openLine s) (omega (arith, length-take (s .held) (s .line), positive (s .held) some)) in
+    last-some (openLine s) (omega (arith, length-take (s .held) (s .line), some)) in
     record {
       lent = rw (last, ← shown) (p .lent);
       bytes = rw (last, append-nil, ← shown) (p .bytes);
     }
-  where
-    positive : (k : ℕ) → (k ≡ 0 → ⊥) → 0 < k
-    positive k f = omega arith

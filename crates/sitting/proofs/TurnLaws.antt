@@ -1,17 +1,18 @@
 -- The loop over a chunk, by what its calls promise: each turn, and what it comes to. Assumes nothing.
 use Prim.Native.Nat.{ℕ, _+_, _-_, _≤_, _<_, min}
 use mathlib.Core.Bool.{Bool, true, false, _&&_, and-eq-true-iff as both}
-use mathlib.Core.List.{List, [], _++_, append-nil}
+use mathlib.Core.List.{List, _++_}
 use mathlib.Core.Path.{_≡_, sym, ap, subst, _∙_}
 use native.Mathlib.Omega.{arith}
 use lib.Dec.{ltb, leb}
-use lib.ListN.{length, take, drop, replicate, length-drop, drop-of-length-le}
+use lib.ListN.{length, take, drop, replicate}
 use lib.Seq.{take-all}
 use borrow.Author.Tests.{ltb-true, leb-true}
-use borrow.Rule.Slice.PartMut.{midOf, postOf, putMid}
+use borrow.Rule.Slice.PartMut.{midOf, putMid}
 use Rattle.frames.specs.declared.Taken.{Taken}
 use Rattle.frames.specs.Framing.{Takes}
 use Rattle.frames.proofs.TakeLaws.{take-min, takes-some}
+use Rattle.frames.proofs.AnswerLaws.{rest-lent, put-back}
 use Rattle.steps.specs.declared.Desk.{Desk}
 use Rattle.replies.specs.declared.Printed.{Printed}
 use Rattle.replies.specs.Reply.{Prints}
@@ -51,23 +52,14 @@ module _
             (e : r .ended ≡ true) (tree′ part : List ℕ) (q : Printed)
             (p : Prints (s .desk) (take (r .held) line′) (s .tree) tree′ (midOf written (length out - written) out) part q)
           where
-            rest-lent : midOf written (length out - written) out ≡ drop written out
-            rest-lent = take-all (length out - written) (drop written out) (omega (arith, length-drop written out))
-
             printed : Prints (s .desk) (take (r .held) line′) (s .tree) tree′ (drop written out) part q
-            printed = subst (λ (x : List ℕ). Prints (s .desk) (take (r .held) line′) (s .tree) tree′ x part q) rest-lent p
-
-            put-back : putMid written (length out - written) out part ≡ take written out ++ part
-            put-back =
-                let none : postOf written (length out - written) out ≡ [] =
-                drop-of-length-le (drop written out) {i = length out - written} (omega (arith, length-drop written out)) in
-                rw (none, append-nil)
+            printed = subst (λ (x : List ℕ). Prints (s .desk) (take (r .held) line′) (s .tree) tree′ x part q) (rest-lent written out) p
 
             pub turn-ended :
                 length tree′ ≡ length (s .tree)
                 → Feeding s₀ begun₀ chunk out₀ (record { desk = q .desk; tree = tree′ }) line′ 0 (r .next) (written + q .bytes) (putMid written (length out - written) out part)
             turn-ended k =
-                rw put-back
+                rw (put-back written out part)
                 (feeding-ended s₀ begun₀ chunk out₀ s line held taken written out f r line′ t more room e tree′ part q printed k)
 
 pub feeding-ends :

@@ -7,7 +7,7 @@ use Rattle.decimal.specs.Promises.{Laid}
 use Rattle.frames.specs.Framing.{endedIn, begunBy, lastOf}
 use Rattle.steps.specs.declared.Desk.{Desk}
 use Rattle.output.specs.Output.{State, repliesTo, behindAll, shut}
-use Rattle.output.specs.Room.{takenOf, heldOf}
+use Rattle.output.specs.Room.{pieceTaken, heldOf}
 use Rattle.sitting.specs.declared.Sitting.{Sitting}
 use Rattle.sitting.specs.declared.Fed.{Fed}
 
@@ -39,7 +39,7 @@ heardIn s chunk n = endedIn (openLine s) (take n chunk)
 -- The lines that end in the bytes taken are answered one after another, and what has come of the next one is held. Bytes past those
 -- printed are as they were.
 pub record Feeds (s : Sitting) (tree later chunk out : List ℕ) (r : Fed) (printed : List ℕ) : Type 0 where
-  pub taken : r .taken ≡ takenOf (stateOf s tree) (openLine s) (length out) chunk
+  pub taken : r .taken ≡ pieceTaken (stateOf s tree) (openLine s) (length out) chunk
   pub sitting :
       r .sitting
       ≡ sittingOf (behindAll (stateOf s tree) (heardIn s chunk (r .taken)) .desk)

@@ -1,5 +1,6 @@
 // A sitting at the desk, from the first byte of its input to the last: document 01, "What the desk sees". Bytes come in chunks
-// of any lengths, and every byte that is to be printed goes out. Stands on `frames` and `replies`.
+// of any lengths, and every byte that is to be printed goes out. Stands on `card`, `frames`, `steps`, `replies` and
+// `output`.
 mod ends;
 mod feeding;
 

@@ -1,5 +1,5 @@
 -- What the loops that check have seen so far: levels of a path, and records of a bucket's part. Assumes nothing.
-use Prim.Native.Nat.{ℕ, zero, suc, _+_, _*_, _-_, _/_, _≤_, _<_}
+use Prim.Native.Nat.{ℕ, zero, suc, _+_, _*_, _-_, _≤_, _<_}
 use mathlib.Core.Bool.{Bool, true, false, not}
 use mathlib.Core.List.{List, _∷_}
 use mathlib.Core.Path.{_≡_, refl, sym, _∙_}
@@ -7,11 +7,9 @@ use native.Mathlib.Numerals.{add-one}
 use native.Mathlib.Omega.{arith}
 use lib.ListN.{length, take, drop}
 use borrow.Author.Tests.{not-true, not-false}
-use Rattle.record.specs.declared.Record.{Record}
-use Rattle.record.specs.Words.{recordAt, records}
+use Rattle.record.specs.Words.{records}
 use Rattle.record.specs.Many.{every}
 use Rattle.path.specs.Path.{upFrom}
-use Rattle.way.proofs.WayLaws.{records-next, records-end}
 use Rattle.gather.proofs.ShownLaws.{fewer, whole-records}
 use Rattle.sound.specs.Fetched.{shownIn}
 
@@ -51,27 +49,6 @@ module _ (f : ℕ → Bool) (h from : ℕ) where
 -- levels from 1 on are h levels
 pub from-one : (f : ℕ → Bool) (h : ℕ) → every f (upFrom 1 (suc h - 1)) ≡ every f (upFrom 1 h)
 from-one f h = let e : suc h - 1 ≡ h = omega arith in rw e
-
--- All records of some words up to place i, which is not looked at yet, have passed.
-pub record Seen (f : Record → Bool) (w : List ℕ) (i : ℕ) : Type 0 where
-  pub left : every f (records w) ≡ every f (drop i (records w))
-
-module _ (f : Record → Bool) (w : List ℕ) where
-  pub seen-starts : Seen f w 0
-  seen-starts = record { left = refl }
-
-  module _ (i : ℕ) (s : Seen f w i) where
-    pub seen-turns : i < length w / 4 → f (recordAt w i) ≡ true → Seen f w (i + 1)
-    unfolding every
-    seen-turns l t = record { left = s .left ∙ rw (records-next w i l, t) }
-
-    pub seen-fails : i < length w / 4 → f (recordAt w i) ≡ false → false ≡ every f (records w)
-    unfolding every
-    seen-fails l t = sym (s .left ∙ rw (records-next w i l, t))
-
-    pub seen-ends : length w / 4 ≤ i → true ≡ every f (records w)
-    unfolding every
-    seen-ends l = sym (s .left ∙ rw (records-end w i l))
 
 -- ---- level d of a path in its part of the words
 module _ (z : ℕ) (path : List ℕ) (h d : ℕ) (room : 4 * (h * (z + 1)) ≤ length path) (some : 1 ≤ d) (most : d ≤ h) where

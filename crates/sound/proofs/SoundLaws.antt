@@ -1,11 +1,10 @@
 -- What a sound record is, and what clause 1 tells of one level. Assumes nothing.
-use Prim.Native.Nat.{ℕ, zero, suc, _+_, _-_, _≤_, _<_}
+use Prim.Native.Nat.{ℕ, suc, _-_, _≤_}
 use mathlib.Core.Bool.{true, and-eq-true-iff}
-use mathlib.Core.List.{_∷_, List·Memᴰ, List·Memᴰ·head, List·Memᴰ·tail}
+use mathlib.Core.List.{_∷_, List·Memᴰ}
 use mathlib.Core.Logic.{_⊎_, inl, inr}
 use mathlib.Core.Path.{_≡_}
 use mathlib.Mathlib.Data.Bool.Basic.{dichotomy}
-use native.Mathlib.Decide.{decLe}
 use native.Mathlib.Omega.{arith}
 use Rattle.record.specs.declared.Leaf.{Leaf}
 use Rattle.record.specs.declared.Bucket.{Bucket}
@@ -15,8 +14,9 @@ use Rattle.record.specs.Standing.{dummy, isDummy, isProper}
 use Rattle.record.proofs.StandingLaws.{dummy-is}
 use Rattle.record.proofs.ManyLaws.{every-each}
 use Rattle.path.specs.Sizes.{leavesOf}
-use Rattle.path.specs.Path.{pathBucket, siblingOf, holds, upFrom}
+use Rattle.path.specs.Path.{pathBucket, siblingOf, holds}
 use Rattle.path.specs.Layout.{Contents}
+use Rattle.path.proofs.LevelLaws.{level-in}
 use Rattle.sound.specs.Sound.{sound, pathSound, siblingsSound}
 
 -- a sound record is the dummy, or proper and in place
@@ -28,16 +28,7 @@ sound-cases h next d b r s = elim (dichotomy (isDummy r)) [
   | inr t ↦ inl (dummy-is r t)
 ]
 
--- a level is among those that follow each other
-pub level-in : (a n d : ℕ) → a ≤ d → d < a + n → List·Memᴰ d (upFrom a n)
-unfolding upFrom
-level-in a zero d l m = absurd (omega arith)
-level-in a (suc n) d l m = elim (decLe d a) [
-  | yes k ↦ let e : d ≡ a = omega arith in List·Memᴰ·head e
-  | no k ↦ List·Memᴰ·tail (level-in (suc a) n d (omega arith) (omega arith))
-]
-
--- so a clause that holds of all levels holds of each
+-- a clause that holds of all levels holds of each
 module _ (h : ℕ) (q : Leaf) (shown : ℕ → Contents) (beside : ℕ → Record) (d : ℕ) (some : 1 ≤ d) (most : d ≤ h) where
   pub bucket-sound-at : (next : Stamp) → pathSound h q shown beside next ≡ true
       → {x : Record} → List·Memᴰ x (shown d .least ∷ shown d .slots) → sound h next d (pathBucket h q d) x ≡ true

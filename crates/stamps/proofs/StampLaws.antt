@@ -9,7 +9,7 @@ use Rattle.record.specs.Many.{every, bears, stampTwice}
 use Rattle.record.specs.Standing.{isDummy}
 use Rattle.record.specs.Words.{recordAt, records}
 use Rattle.record.proofs.ManyLaws.{borne-none, borne-here, borne-later, twice-none, twice-dummy, twice-here, twice-later}
-use Rattle.way.proofs.WayLaws.{records-next, records-end}
+use Rattle.record.proofs.WordsLaws.{records-next, records-end}
 
 -- a record from place i on has this stamp
 abbrev pub borneFrom : List ℕ → Stamp → ℕ → Bool

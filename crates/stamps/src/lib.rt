@@ -1,5 +1,5 @@
 // Stamps that stand twice: document 01, "two slots that are not dummies, root included, share a stamp". The slots are lent as
-// words, four to a record. Stands on `record` and the laws of `way`.
+// words, four to a record. Stands on `record`.
 ghost use mathlib.Core.Path.{_≡_};
 ghost use mathlib.Core.Bool.{not};
 ghost use lib.ListN.{drop};

@@ -1,12 +1,11 @@
 -- A desk that holds a queue: a round on its card, `min`, and the tree's words at the head of what is lent. Assumes nothing.
-use Prim.Native.Nat.{ℕ, zero, suc}
+use Prim.Native.Nat.{ℕ}
 use mathlib.Core.Bool.{true, false}
 use mathlib.Core.List.{List, _++_}
 use mathlib.Core.Path.{_≡_, refl, sym, ap, _∙_}
 use native.Mathlib.Omega.{arith}
 use lib.ListN.{length, length-append, take-append-drop}
 use lib.Seq.{take-at}
-use borrow.Author.Tests.{ne-eqb}
 use Rattle.path.specs.Sizes.{inRange}
 use Rattle.path.specs.Layout.{treeWords}
 use Rattle.path.proofs.SizesLaws.{tree-range}
@@ -14,16 +13,17 @@ use Rattle.lists.specs.BucketList.{BucketList}
 use Rattle.refusal.specs.Refusal.{firstGiven}
 use Rattle.settle.specs.Left.{Left}
 use Rattle.copies.specs.Copy.{fetched}
-use Rattle.rack.specs.Refusals.{afterwards}
 use Rattle.card.specs.declared.Card.{Card}
 use Rattle.card.specs.declared.Done.{Done}
-use Rattle.card.specs.declared.Answer.the-variants.{Refused}
+use Rattle.answers.specs.declared.Answer.the-variants.{Refused}
 use Rattle.request.specs.declared.Waiting.{Waiting}
 use Rattle.request.specs.Tables.{waits}
 use Rattle.card.specs.Tables.{requestTable}
 use Rattle.card.specs.Calls.{withWaiting, listOf}
-use Rattle.card.specs.Answers.{numberOf, refused, orRefused}
+use Rattle.answers.specs.Answers.{numberOf}
+use Rattle.card.specs.Answers.{refused, orRefused}
 use Rattle.card.specs.Finish.{leftBy, cardLeft, finished}
+use Rattle.refusal.proofs.RefusalLaws.{left-before}
 use Rattle.card.proofs.CallLaws.{same-list}
 use Rattle.served.specs.Ready.{Ready}
 use Rattle.served.specs.LiveAfter.{liveAfter}
@@ -35,23 +35,18 @@ use Rattle.demands.specs.Queue.{Queue, reply, next}
 use Rattle.demands.specs.Says.{asks, says}
 use Rattle.demands.proofs.AnswerLaws.{queueOf, finish-says, finish-numbered, next-events, next-taken}
 use Rattle.steps.specs.declared.Desk.{Desk}
-use Rattle.steps.specs.Step.{wordsOf, usedOf, told, kept, head, rest, played}
+use Rattle.steps.specs.Step.{treeWordsUsed, usedOf, tells, kept, head, rest, played}
 use Rattle.steady.specs.Steady.{Holds}
 
 -- the words of a tree that stands at the head of what is lent
 pub own-head : (desk : Desk) (tree rest : List ℕ) → inRange (desk .card .sizes) ≡ true
     → length tree ≡ treeWords (desk .card .sizes .h) (desk .card .sizes .z) → head desk (tree ++ rest) ≡ tree
-unfolding wordsOf
+unfolding treeWordsUsed
 own-head desk tree rest e n =
     let range = tree-range (desk .card .sizes) e in
     let used : usedOf (desk .card .sizes .h) (desk .card .sizes .z) (length (tree ++ rest)) ≡ length tree =
     rw (range, length-append tree rest, ← n) (omega arith) in
     rw used (take-at tree rest (length tree) refl)
-
--- what a refusal leaves is what was
-given : {A : Type 0} (n : ℕ) (done before : A) → (n ≡ 0 → ⊥) → afterwards n done before ≡ before
-given zero done before h = absurd (h refl)
-given (suc n) done before h = refl
 
 -- a card whose finish is done waits for nothing
 left-idle : (k : Card) (l : Left) → waits (cardLeft k l .waiting) ≡ false
@@ -86,15 +81,15 @@ module _ (desk : Desk) (tree : List ℕ) (q : Queue) (h : Holds desk tree q) whe
     module _ (some-number : number ≡ 0 → ⊥) where
       refused-done : out ≡ refused k number
       unfolding roundDone orRefused
-      refused-done = rw (round-is, ne-eqb number 0 some-number)
+      refused-done = rw round-is (left-before number _ (refused k number) some-number)
 
       same-tree : after ≡ head desk tree
       unfolding roundTree
-      same-tree = rw round-is (given number _ (head desk tree) some-number)
+      same-tree = rw round-is (left-before number _ (head desk tree) some-number)
 
       pub round-refused : played desk tree w ≡ record { turn = kept desk (Refused number); tree = tree }
       round-refused =
-          let turn : told out ≡ kept desk (Refused number) = ap told refused-done ∙ ap (λ (d : Desk). kept d (Refused number)) own-desk in
+          let turn : tells out ≡ kept desk (Refused number) = ap tells refused-done ∙ ap (λ (d : Desk). kept d (Refused number)) own-desk in
           let whole : after ++ rest desk tree ≡ tree = rw (same-tree, take-append-drop) in
           λ i. record { turn = turn i; tree = whole i }
 
@@ -116,6 +111,9 @@ module _ (desk : Desk) (tree : List ℕ) (q : Queue) (h : Holds desk tree q) whe
 
       card-left : out .card ≡ cardLeft waiting (leftBy waiting w (shown (listOf waiting w)))
       card-left = ap (λ (d : Done). d .card) finished-done ∙ finished-card waiting w _ some
+
+      pub round-sizes : out .card .sizes ≡ k .sizes
+      round-sizes = ap (λ (c : Card). c .sizes) card-left
 
       pub round-says : says (out .answer) ≡ reply q (asks w)
       round-says =

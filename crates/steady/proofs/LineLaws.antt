@@ -1,6 +1,6 @@
 -- One line on a desk that holds a queue, or none: what it comes to, and what the desk holds then. Assumes nothing.
 use Prim.Native.Nat.{ℕ, _≤_}
-use mathlib.Core.Bool.{Bool, true, false, cond, or-true}
+use mathlib.Core.Bool.{Bool, true, false, cond}
 use mathlib.Core.List.{List, []}
 use mathlib.Core.Logic.{inl, inr}
 use mathlib.Core.Option.{Option, none, some}
@@ -8,45 +8,45 @@ use mathlib.Core.Path.{_≡_, refl, sym, ap, _∙_, subst}
 use mathlib.Mathlib.Data.Bool.Basic.{dichotomy}
 use native.Mathlib.Omega.{arith}
 use lib.Dec.{eqb}
-use lib.ListN.{length, drop}
+use lib.ListN.{length, length-map, drop}
 use borrow.Author.Tests.{eqb-true, eqb-false, eq-eqb, ne-eqb}
 use Rattle.record.specs.Standing.{dummyKey}
+use Rattle.lists.specs.BucketList.{wordsMoved, sum}
 use Rattle.path.specs.declared.sizes.Sizes.{Sizes}
 use Rattle.path.specs.Sizes.{sizesOf, inRange}
 use Rattle.path.specs.Layout.{freshTree}
-use Rattle.refusal.specs.Refusal.{firstGiven}
+use Rattle.refusal.specs.Refusal.{Refusal, firstGiven}
 use Rattle.card.specs.declared.Card.{Card}
-use Rattle.card.specs.declared.Answer.the-variants.{Least, Refused}
+use Rattle.answers.specs.declared.Answer.the-variants.{Least, Refused}
 use Rattle.request.specs.declared.Waiting.{Waiting}
 use Rattle.request.specs.declared.Waiting.the-variants.{Insert as AskInsert, Extract as AskExtract, Delete as AskDelete}
-use Rattle.request.specs.Tables.{waits}
+use Rattle.request.specs.Tables.{requestRows, waits}
 use Rattle.card.specs.Tables.{requestTable}
 use Rattle.card.specs.Answers.{refused, orRefused}
 use Rattle.card.specs.Calls.{freshCard, minTable, foundMin}
 use Rattle.served.proofs.CallLaws.{start-ready, ready-card}
 use Rattle.served.proofs.FinishedLaws.{WordKey}
-use Rattle.honest.proofs.RoundLaws.{request-own, own-range}
-use Rattle.demands.specs.Queue.{Queue, emptyQueue, leastEvent, reply, next, told as toldOf}
-use Rattle.demands.specs.Says.{asks}
+use Rattle.demands.specs.Queue.{Queue, findMin, emptyQueue, leastEvent, reply, next, told}
+use Rattle.demands.specs.Says.{eventOf, asks}
 use Rattle.demands.proofs.AnswerLaws.{least-told}
 use Rattle.lines.specs.declared.Line.{Line}
 use Rattle.lines.specs.declared.Line.the-variants.{Unreadable, Size, Insert, Min, Extract, Delete}
 use Rattle.steps.specs.declared.Desk.{Desk}
 use Rattle.steps.specs.declared.Turn.{Turn}
-use Rattle.steps.specs.Step.{Left, nothing, unread as question, told, kept, fresh, sizedTo, tooLarge, wordsOf, head, played, askedFor, leastOf, minOf, stepOf}
-use Rattle.steady.specs.Steady.{wants, Holds, Keeps, Unheard, unreadable, early, large, Printed, Turns, unread, refused as refuses, started, answered, sizedBefore}
-use Rattle.steady.proofs.HeldLaws.{own-head, own-desk, round-refused, round-says, round-numbered, round-holds}
+use Rattle.steps.specs.Step.{LineLeft, nothing, unread, tells, kept, fresh, sizedTo, tooLarge, treeWordsUsed, head, played, askedFor, minDone, minOf, stepOf}
+use Rattle.steady.specs.Steady.{wants, refusals, Holds, Keeps, Unheard, unreadable, early, large, Turns, ignored, misSized, sizedAnew, refusedWith, answered}
+use Rattle.steady.proofs.HeldLaws.{own-head, own-desk, round-refused, round-sizes, round-says, round-numbered, round-holds}
 
 -- a line played: what it comes to, and that the desk keeps what is then held
-pub record Played (desk : Desk) (tree : List ℕ) (q : Option Queue) (line : Line) (l : Left) : Type 0 where
+pub record Played (desk : Desk) (tree : List ℕ) (q : Option Queue) (line : Line) (l : LineLeft) : Type 0 where
   pub held : Option Queue
   pub turns : Turns desk tree q line l held
   pub keeps : Keeps (l .turn .desk) (l .tree) held
 
 -- ---- `size`
 module _ (desk : Desk) (tree : List ℕ) (q : Option Queue) (k : Keeps desk tree q) where
-  stays : {line : Line} {l : Left} → Unheard (length tree) q line → l ≡ nothing desk tree → Played desk tree q line l
-  stays u e = record { held = q; turns = unread u e; keeps = rw e k }
+  stays : {line : Line} {l : LineLeft} → Unheard (length tree) q line → l ≡ nothing desk tree → Played desk tree q line l
+  stays u e = record { held = q; turns = ignored u e; keeps = rw e k }
 
   module _ (h z r t : ℕ) where
     abbrev s : Sizes
@@ -59,7 +59,7 @@ module _ (desk : Desk) (tree : List ℕ) (q : Option Queue) (k : Keeps desk tree
         record {
           sized = refl;
           live = [];
-          ready = rw (own-head (record { sized = true; card = freshCard s }) (freshTree h z) (drop (wordsOf h z) tree) e (r .heap .words)) r;
+          ready = rw (own-head (record { sized = true; card = freshCard s }) (freshTree h z) (drop (treeWordsUsed h z) tree) e (r .heap .words)) r;
           idle = refl;
           events = refl;
           taken = refl;
@@ -68,10 +68,10 @@ module _ (desk : Desk) (tree : List ℕ) (q : Option Queue) (k : Keeps desk tree
     pub size-line : Played desk tree q (Size h z r t) (sizedTo desk tree s)
     unfolding sizedTo
     size-line = elim (dichotomy (inRange s)) [
-      | inl f ↦ rw f (record { held = q; turns = refuses 1 (or-true (sizedBefore q)) refl refl; keeps = k })
+      | inl f ↦ rw f (record { held = q; turns = misSized h z r t refl f refl; keeps = k })
       | inr e ↦ elim (dichotomy (tooLarge (length tree) s)) [
-        | inl f ↦ rw (e, f) (record { held = some emptyQueue; turns = started h z r t refl refl refl; keeps = fresh-keeps e })
-        | inr l ↦ rw (e, l) (stays (large l) refl)
+        | inl f ↦ rw (e, f) (record { held = some emptyQueue; turns = sizedAnew h z r t refl e f refl refl; keeps = fresh-keeps e })
+        | inr l ↦ rw (e, l) (stays (large e l) refl)
       ]
     ]
 
@@ -81,54 +81,77 @@ module _ (desk : Desk) (tree : List ℕ) (q : Queue) (h : Holds desk tree q) whe
   unfolding askedFor
   asked-played w = ap (λ (b : Bool). cond b (played desk tree w) (nothing desk tree)) (sym (h .sized))
 
-  -- refused by a rule of its own, or answered
-  played-line : (line : Line) (w : Waiting) → WordKey w → waits w ≡ true → wants line ≡ asks w
-      → ((n : ℕ) → (4 ≤ n) × (n ≤ 10) → Printed line n)
-      → Played desk tree (some q) line (played desk tree w)
-  played-line line w word busy same printed = elim (dichotomy (eqb (firstGiven (requestTable (desk .card) w)) 0)) [
-    | inl f ↦
-        let n = eqb-false _ _ f in
-        let e = round-refused desk tree q h w word busy n in
-        record {
-          held = some q;
-          turns = refuses _ refl (printed _ (own-range _ (request-own (desk .card) w) n)) e;
-          keeps = subst (λ (l : Left). Keeps (l .turn .desk) (l .tree) (some q)) (sym e) h;
-        }
-    | inr e ↦
-        let n = eqb-true _ _ e in
-        record {
-          held = some (next q (wants line));
-          turns = answered q _ refl refl (round-numbered desk tree q h w word busy n) (rw same (round-says desk tree q h w word busy n));
-          keeps = rw same (round-holds desk tree q h w word busy n);
-        }
-  ]
+  -- the rows of a request, in the queue's words
+  events-counted : desk .card .c ≡ length (q .events)
+  events-counted = h .ready .heap .count ∙ sym (length-map (h .live) eventOf) ∙ ap length (h .events)
 
-  asked-line : (line : Line) (w : Waiting) → WordKey w → waits w ≡ true → wants line ≡ asks w
-      → ((n : ℕ) → (4 ≤ n) × (n ≤ 10) → Printed line n)
-      → Played desk tree (some q) line (askedFor desk tree w)
-  asked-line line w word busy same printed = subst (Played desk tree (some q) line) (asked-played w) (played-line line w word busy same printed)
+  abbrev rows : Waiting → List Refusal
+  rows = requestRows (desk .card .sizes) (q .taken) (length (q .events)) (desk .card .root)
+
+  same-rows : (w : Waiting) → requestTable (desk .card) w ≡ rows w
+  same-rows w = λ i. requestRows (desk .card .sizes) (h .taken i) (events-counted i) (desk .card .root) w
+
+  module _ (line : Line) (w : Waiting) (word : WordKey w) (busy : waits w ≡ true) (same : wants line ≡ some (asks w)) (own : refusals (desk .card) q line ≡ rows w) where
+    own-number : firstGiven (requestTable (desk .card) w) ≡ firstGiven (refusals (desk .card) q line)
+    own-number = ap firstGiven (same-rows w ∙ sym own)
+
+    -- refused by the first of its own rows that is given, or answered
+    played-line : Played desk tree (some q) line (played desk tree w)
+    played-line = elim (dichotomy (eqb (firstGiven (requestTable (desk .card) w)) 0)) [
+      | inl f ↦
+          let n = eqb-false _ _ f in
+          let e = round-refused desk tree q h w word busy n in
+          record {
+            held = some q;
+            turns =
+                refusedWith q refl (λ z. n (own-number ∙ z))
+                (e ∙ ap (λ (m : ℕ). record { turn = kept desk (Refused m); tree = tree }) own-number);
+            keeps = subst (λ (l : LineLeft). Keeps (l .turn .desk) (l .tree) (some q)) (sym e) h;
+          }
+      | inr e ↦
+          let n = eqb-true _ _ e in
+          record {
+            held = some (next q (asks w));
+            turns =
+                answered q (asks w) _ refl same (sym own-number ∙ n) (round-sizes desk tree q h w word busy n) refl (round-numbered desk tree q h w word busy n)
+                (round-says desk tree q h w word busy n);
+            keeps = round-holds desk tree q h w word busy n;
+          }
+    ]
+
+    asked-line : Played desk tree (some q) line (askedFor desk tree w)
+    asked-line = subst (Played desk tree (some q) line) (asked-played w) played-line
 
   -- ---- `min`
   abbrev k : Card
   k = desk .card
 
-  min-told : minOf desk ≡ told (leastOf k)
+  min-told : minOf desk ≡ tells (minDone k)
   unfolding minOf
-  min-told = ap (λ (b : Bool). cond b (told (leastOf k)) (question desk)) (h .sized)
+  min-told = ap (λ (b : Bool). cond b (tells (minDone k)) (unread desk)) (h .sized)
 
-  none-least : k .c ≡ 0 → leastOf k ≡ refused k 8
+  none-least : k .c ≡ 0 → minDone k ≡ refused k 8
   unfolding minTable firstGiven orRefused
   none-least e = rw (ready-card k (head desk tree) (h .live) (h .ready), h .idle, eq-eqb (k .c) 0 e)
 
-  some-least : (k .c ≡ 0 → ⊥) → leastOf k ≡ foundMin k
+  some-least : (k .c ≡ 0 → ⊥) → minDone k ≡ foundMin k
   unfolding minTable firstGiven orRefused
   some-least n = rw (ready-card k (head desk tree) (h .live) (h .ready), h .idle, ne-eqb (k .c) 0 n)
 
   min-empty : k .c ≡ 0 → minOf desk ≡ kept desk (Refused 8)
-  min-empty e = min-told ∙ ap told (none-least e) ∙ ap (λ (d : Desk). kept d (Refused 8)) (own-desk desk tree q h)
+  min-empty e = min-told ∙ ap tells (none-least e) ∙ ap (λ (d : Desk). kept d (Refused 8)) (own-desk desk tree q h)
 
-  min-found : (k .c ≡ 0 → ⊥) → minOf desk ≡ kept desk (Least (k .least))
-  min-found n = min-told ∙ ap told (some-least n) ∙ ap (λ (d : Desk). kept d (Least (k .least))) (own-desk desk tree q h)
+  min-found : (k .c ≡ 0 → ⊥) → minOf desk ≡ kept desk (Least (k .least) 0)
+  unfolding wordsMoved sum
+  min-found n = min-told ∙ ap tells (some-least n) ∙ ap (λ (d : Desk). kept d (Least (k .least) 0)) (own-desk desk tree q h)
+
+  given-eight : length (q .events) ≡ 0 → firstGiven (refusals k q Min) ≡ 8
+  unfolding firstGiven
+  given-eight e = rw e
+
+  given-none : (length (q .events) ≡ 0 → ⊥) → firstGiven (refusals k q Min) ≡ 0
+  unfolding firstGiven
+  given-none n = rw (ne-eqb (length (q .events)) 0 n)
 
   min-line : Played desk tree (some q) Min (record { turn = minOf desk; tree = tree })
   min-line = elim (dichotomy (eqb (k .c) 0)) [
@@ -138,15 +161,19 @@ module _ (desk : Desk) (tree : List ℕ) (q : Queue) (h : Holds desk tree q) whe
         record {
           held = some q;
           turns =
-              answered q (Least (k .least)) refl (ap (λ (t : Turn). t .reply) e) refl
-              (ap toldOf (sym (least-told k (head desk tree) (h .live) (h .ready) (omega (arith, n))) ∙ ap leastEvent (h .events)));
+              answered q findMin (Least (k .least) 0) refl refl (given-none (λ z. n (events-counted ∙ z))) (ap (λ (t : Turn). t .desk .card .sizes) e) (ap (λ (t : Turn). t .reply) e) refl
+              (ap told (sym (least-told k (head desk tree) (h .live) (h .ready) (omega (arith, n))) ∙ ap leastEvent (h .events)));
           keeps = rw e h;
         }
     | inr t ↦
-        let e = min-empty (eqb-true _ _ t) in
+        let z = eqb-true _ _ t in
+        let e = min-empty z in
+        let eight : firstGiven (refusals k q Min) ≡ 8 = given-eight (sym events-counted ∙ z) in
         record {
           held = some q;
-          turns = refuses 8 refl refl (ap (λ (u : Turn). record { turn = u; tree = tree }) e);
+          turns =
+              refusedWith q refl (λ n. omega (arith, eight, n))
+              (rw eight (ap (λ (u : Turn). record { turn = u; tree = tree }) e));
           keeps = rw e h;
         }
   ]
@@ -162,14 +189,14 @@ WordLine (Delete label stamp) = Unit {0}
 
 module _ (desk : Desk) (tree : List ℕ) where
   pub held-line : (q : Queue) → Holds desk tree q → (line : Line) → WordLine line → Played desk tree (some q) line (stepOf desk line tree)
-  unfolding stepOf waits
+  unfolding stepOf waits requestRows
   held-line q h Unreadable word = stays desk tree (some q) h unreadable refl
   held-line q h (Size height z r t) word = size-line desk tree (some q) h height z r t
   held-line q h (Insert key value label first second) word =
-      asked-line desk tree q h (Insert key value label first second) (AskInsert key value label first second) word refl refl (λ n p. p)
+      asked-line desk tree q h (Insert key value label first second) (AskInsert key value label first second) word refl refl refl
   held-line q h Min word = min-line desk tree q h
-  held-line q h Extract word = asked-line desk tree q h Extract AskExtract tt refl refl (λ n p. p)
-  held-line q h (Delete label stamp) word = asked-line desk tree q h (Delete label stamp) (AskDelete label stamp) tt refl refl (λ n p. p)
+  held-line q h Extract word = asked-line desk tree q h Extract AskExtract tt refl refl refl
+  held-line q h (Delete label stamp) word = asked-line desk tree q h (Delete label stamp) (AskDelete label stamp) tt refl refl refl
 
   -- before any accepted `size`
   early-line : desk .sized ≡ false → (line : Line) → Played desk tree none line (stepOf desk line tree)

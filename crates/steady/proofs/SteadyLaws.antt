@@ -13,12 +13,12 @@ use Rattle.decimal.proofs.DecimalLaws.{number-plain}
 use Rattle.demands.specs.Queue.{Queue}
 use Rattle.lines.specs.declared.Line.{Line}
 use Rattle.lines.specs.declared.Line.the-variants.{Unreadable}
-use Rattle.fields.specs.Pieces.{same, fieldsOf}
+use Rattle.fields.specs.Pieces.{sameBytes, fieldsOf}
 use Rattle.lines.specs.Says.{linesOf}
 use Rattle.lines.specs.Says.{Kind, saidOf, saidBy, fieldsSay, lineMost, lineSays, at, sizeKind, insertKind, minKind, extractKind, deleteKind}
 use Rattle.fields.specs.Behind.{allNumbers}
 use Rattle.steps.specs.declared.Desk.{Desk}
-use Rattle.steady.specs.Steady.{Keeps, Sits, ended, turned}
+use Rattle.steady.specs.Steady.{Keeps, SitsBeside, ended, turned}
 use Rattle.steady.proofs.LineLaws.{WordLine, one-line}
 
 -- ---- "numbers are plain decimal below 2^64": so is an Insert's key
@@ -43,23 +43,23 @@ fields-word : (fields : List (List ℕ)) → WordLine (fieldsSay fields)
 unfolding saidBy
 fields-word [] = tt
 fields-word (word ∷ fields) =
-    either-word (same word (sizeKind .word)) _ _ (said-word sizeKind fields (λ ns l. tt))
-    (either-word (same word (insertKind .word)) _ _ (said-word insertKind fields (λ ns l. omega arith))
-    (either-word (same word (minKind .word)) _ _ (said-word minKind fields (λ ns l. tt))
-    (either-word (same word (extractKind .word)) _ _ (said-word extractKind fields (λ ns l. tt))
-    (either-word (same word (deleteKind .word)) _ _ (said-word deleteKind fields (λ ns l. tt)) tt))))
+    either-word (sameBytes word (sizeKind .word)) _ _ (said-word sizeKind fields (λ ns l. tt))
+    (either-word (sameBytes word (insertKind .word)) _ _ (said-word insertKind fields (λ ns l. omega arith))
+    (either-word (sameBytes word (minKind .word)) _ _ (said-word minKind fields (λ ns l. tt))
+    (either-word (sameBytes word (extractKind .word)) _ _ (said-word extractKind fields (λ ns l. tt))
+    (either-word (sameBytes word (deleteKind .word)) _ _ (said-word deleteKind fields (λ ns l. tt)) tt))))
 
 line-word : (line : List ℕ) → WordLine (lineSays line)
 unfolding lineSays
 line-word line = either-word (leb (length line) lineMost) (fieldsSay (fieldsOf line)) Unreadable (fields-word (fieldsOf line)) tt
 
 -- ---- line after line
-follow : (lines : List (List ℕ)) (desk : Desk) (tree : List ℕ) (q : Option Queue) → Keeps desk tree q → Sits desk tree q (map lineSays lines)
+follow : (lines : List (List ℕ)) (desk : Desk) (tree : List ℕ) (q : Option Queue) → Keeps desk tree q → SitsBeside desk tree q (map lineSays lines)
 follow [] desk tree q k = ended k
 follow (line ∷ lines) desk tree q k =
     let p = one-line desk tree q k (lineSays line) (line-word line) in
     turned k (p .turns) (follow lines _ _ (p .held) (p .keeps))
 
 -- Whatever bytes come in: a desk with no size yet, and any words lent.
-pub steady : (desk : Desk) (tree input : List ℕ) → desk .sized ≡ false → Sits desk tree none (map lineSays (linesOf input))
+pub steady : (desk : Desk) (tree input : List ℕ) → desk .sized ≡ false → SitsBeside desk tree none (map lineSays (linesOf input))
 steady desk tree input e = follow (linesOf input) desk tree none e

@@ -1,34 +1,48 @@
 -- The desk beside the plain queue: document 01, "The desk program reads lines and plays both sides." Whatever lines come, each is
 -- answered as the queue answers it, or changes nothing. Proved as `steady` in proofs/SteadyLaws.antt. Assumes nothing.
-use Prim.Native.Nat.{ℕ, _≤_}
-use mathlib.Core.Bool.{Bool, true, false, _||_}
+use Prim.Native.Nat.{ℕ}
+use mathlib.Core.Bool.{Bool, true, false}
 use mathlib.Core.List.{List, [], _∷_, map}
 use mathlib.Core.Option.{Option, none, some}
 use mathlib.Core.Path.{_≡_}
+use lib.Dec.{eqb}
 use lib.ListN.{length}
 use Rattle.record.specs.declared.Record.{Record}
-use Rattle.path.specs.Sizes.{sizesOf}
-use Rattle.request.specs.Tables.{waits}
-use Rattle.card.specs.declared.Answer.{Answer}
-use Rattle.card.specs.declared.Answer.the-variants.{Started, Refused}
-use Rattle.card.specs.Answers.{numberOf}
+use Rattle.path.specs.Sizes.{sizesOf, inRange}
+use Rattle.refusal.specs.Refusal.{Refusal, row, firstGiven}
+use Rattle.request.specs.Tables.{insertRows, extractRows, deleteRows, waits}
+use Rattle.card.specs.declared.Card.{Card}
+use Rattle.answers.specs.declared.Answer.{Answer}
+use Rattle.answers.specs.declared.Answer.the-variants.{Started, Refused}
+use Rattle.answers.specs.Answers.{numberOf}
 use Rattle.served.specs.Ready.{Ready}
-use Rattle.demands.specs.Queue.{Queue, Request, insert, findMin, extractMin, delete, nothing as silence, emptyQueue, reply, next}
+use Rattle.demands.specs.Queue.{Queue, Request, insert, findMin, extractMin, delete, emptyQueue, reply, next}
 use Rattle.demands.specs.Says.{refOf, eventOf, says}
 use Rattle.lines.specs.declared.Line.{Line}
 use Rattle.lines.specs.declared.Line.the-variants.{Unreadable, Size, Insert, Min, Extract, Delete}
 use Rattle.steps.specs.declared.Desk.{Desk}
 use Rattle.steps.specs.declared.Reply.the-variants.{Said}
-use Rattle.steps.specs.Step.{Left, nothing, kept, head, tooLarge, stepOf}
+use Rattle.steps.specs.Step.{LineLeft, nothing, kept, head, tooLarge, stepOf}
 
--- what a line asks of the queue
-abbrev pub wants : Line → Request
-wants Unreadable = silence
-wants (Size h z r t) = silence
-wants (Insert key value label first second) = insert key value (label .0)
-wants Min = findMin
-wants Extract = extractMin
-wants (Delete label stamp) = delete (refOf label stamp)
+-- what a line asks of the queue: a `size` asks nothing of the one that was
+abbrev pub wants : Line → Option Request
+wants Unreadable = none
+wants (Size h z r t) = none
+wants (Insert key value label first second) = some (insert key value (label .0))
+wants Min = some findMin
+wants Extract = some extractMin
+wants (Delete label stamp) = some (delete (refOf label stamp))
+
+-- "A refusal prints its number": those that a line can meet, in their order, in the queue's words. t is its count of requests
+-- taken and c the count of its events; sizes and root are the card's. Neither 2 nor 3, and none of 11 to 14
+abbrev pub refusals : Card → Queue → Line → List Refusal
+refusals k q Unreadable = []
+refusals k q (Size h z r t) = []
+refusals k q (Insert key value label first second) =
+    insertRows (k .sizes) (q .taken) (length (q .events)) (k .root) key label first second
+refusals k q Min = row 8 (eqb (length (q .events)) 0) ∷ []
+refusals k q Extract = extractRows (k .sizes) (q .taken) (length (q .events))
+refusals k q (Delete label stamp) = deleteRows (k .sizes) (q .taken) (length (q .events)) label stamp
 
 -- ---- between two lines
 -- the desk holds this queue: card and tree hold a good heap of its events, and no request waits
@@ -54,44 +68,41 @@ isSize Min = false
 isSize Extract = false
 isSize (Delete label stamp) = false
 
--- whether a `size` was accepted
-abbrev pub sizedBefore : Option Queue → Bool
-sizedBefore none = false
-sizedBefore (some q) = true
-
 -- "A line it can't read, .. one other than `size` before any accepted `size`, or a `size` within its ranges whose tree is over 8,192
 -- words" (or over what is lent)
 pub data Unheard (lent : ℕ) : Option Queue → Line → Type 0 where
   unreadable : {q : Option Queue} → Unheard lent q Unreadable
   early : {line : Line} → isSize line ≡ false → Unheard lent none line
-  large : {q : Option Queue} {h z r t : ℕ} → tooLarge lent (sizesOf h z r t) ≡ true → Unheard lent q (Size h z r t)
+  large :
+      {q : Option Queue} {h z r t : ℕ} → inRange (sizesOf h z r t) ≡ true → tooLarge lent (sizesOf h z r t) ≡ true
+      → Unheard lent q (Size h z r t)
 
--- the numbers that a desk can print: neither 2 nor 3, and none of 11 to 14
-abbrev pub Printed : Line → ℕ → Type 0
-Printed Unreadable n = ⊥
-Printed (Size h z r t) n = n ≡ 1
-Printed (Insert key value label first second) n = (4 ≤ n) × (n ≤ 10)
-Printed Min n = n ≡ 8
-Printed Extract n = (4 ≤ n) × (n ≤ 10)
-Printed (Delete label stamp) n = (4 ≤ n) × (n ≤ 10)
-
-module _ (desk : Desk) (tree : List ℕ) (q : Option Queue) (line : Line) (l : Left) where
+module _ (desk : Desk) (tree : List ℕ) (q : Option Queue) (line : Line) (l : LineLeft) where
   -- what is left of it, and the queue that is held then
   pub data Turns : Option Queue → Type 0 where
     -- `?`, and nothing changes
-    unread : Unheard (length tree) q line → l ≡ nothing desk tree → Turns q
-    -- "A refusal prints its number", and nothing changes; before any accepted `size` only a `size` is refused so
-    refused : (n : ℕ) → (sizedBefore q || isSize line) ≡ true → Printed line n → l ≡ record { turn = kept desk (Refused n); tree = tree } → Turns q
+    ignored : Unheard (length tree) q line → l ≡ nothing desk tree → Turns q
+    -- a `size` out of its ranges: 1, and nothing changes
+    misSized :
+        (h z r t : ℕ) → line ≡ Size h z r t → inRange (sizesOf h z r t) ≡ false
+        → l ≡ record { turn = kept desk (Refused 1); tree = tree } → Turns q
     -- "`size h Z R T` starts afresh", with these sizes
-    started : (h z r t : ℕ) → line ≡ Size h z r t → l .turn .desk .card .sizes ≡ sizesOf h z r t → l .turn .reply ≡ Said Started
-        → Turns (some emptyQueue)
-    -- as the queue answers
-    answered : (p : Queue) (a : Answer) → q ≡ some p → l .turn .reply ≡ Said a → numberOf a ≡ 0 → says a ≡ reply p (wants line)
-        → Turns (some (next p (wants line)))
+    sizedAnew :
+        (h z r t : ℕ) → line ≡ Size h z r t → inRange (sizesOf h z r t) ≡ true → tooLarge (length tree) (sizesOf h z r t) ≡ false
+        → l .turn .desk .card .sizes ≡ sizesOf h z r t → l .turn .reply ≡ Said Started → Turns (some emptyQueue)
+    -- the first of the line's refusals that is given, and nothing changes
+    refusedWith :
+        (p : Queue) → q ≡ some p → (firstGiven (refusals (desk .card) p line) ≡ 0 → ⊥)
+        → l ≡ record { turn = kept desk (Refused (firstGiven (refusals (desk .card) p line))); tree = tree } → Turns q
+    -- where none is given: as the queue answers, and the sizes stay
+    answered :
+        (p : Queue) (w : Request) (a : Answer) → q ≡ some p → wants line ≡ some w → firstGiven (refusals (desk .card) p line) ≡ 0
+        → l .turn .desk .card .sizes ≡ desk .card .sizes → l .turn .reply ≡ Said a → numberOf a ≡ 0 → says a ≡ reply p w
+        → Turns (some (next p w))
 
 -- ---- every list of lines
-pub data Sits : Desk → List ℕ → Option Queue → List Line → Type 0 where
-  ended : {desk : Desk} {tree : List ℕ} {q : Option Queue} → Keeps desk tree q → Sits desk tree q []
+pub data SitsBeside : Desk → List ℕ → Option Queue → List Line → Type 0 where
+  ended : {desk : Desk} {tree : List ℕ} {q : Option Queue} → Keeps desk tree q → SitsBeside desk tree q []
   turned : {desk : Desk} {tree : List ℕ} {q p : Option Queue} {line : Line} {lines : List Line} → Keeps desk tree q
       → Turns desk tree q line (stepOf desk line tree) p
-      → Sits (stepOf desk line tree .turn .desk) (stepOf desk line tree .tree) p lines → Sits desk tree q (line ∷ lines)
+      → SitsBeside (stepOf desk line tree .turn .desk) (stepOf desk line tree .tree) p lines → SitsBeside desk tree q (line ∷ lines)

@@ -16,13 +16,13 @@ use Rattle.rounds.specs.Round.{Plays, roundDone, roundTree}
 use Rattle.rounds.proofs.RoundLaws.{comes-to}
 use Rattle.steps.specs.declared.Desk.{Desk}
 use Rattle.steps.specs.declared.Turn.{Turn}
-use Rattle.steps.specs.Step.{unread, told, usedOf, Left, nothing, played, askedFor, leastOf, minOf, stepOf, Steps}
+use Rattle.steps.specs.Step.{unread, tells, usedOf, LineLeft, nothing, played, askedFor, minDone, minOf, stepOf, Steps}
 
 -- a step is known by what its line leaves
-pub steps-as : (desk : Desk) (line : Line) (tree after : List ℕ) (turn : Turn) (l : Left) → stepOf desk line tree ≡ l → turn ≡ l .turn → after ≡ l .tree
+pub steps-as : (desk : Desk) (line : Line) (tree after : List ℕ) (turn : Turn) (l : LineLeft) → stepOf desk line tree ≡ l → turn ≡ l .turn → after ≡ l .tree
     → Steps desk line tree after turn
 steps-as desk line tree after turn l own t a =
-    record { said = t ∙ sym (ap (λ (x : Left). x .turn) own); lent = a ∙ sym (ap (λ (x : Left). x .tree) own) }
+    record { said = t ∙ sym (ap (λ (x : LineLeft). x .turn) own); lent = a ∙ sym (ap (λ (x : LineLeft). x .tree) own) }
 
 module _ (desk : Desk) (tree : List ℕ) where
   pub unread-line : (turn : Turn) → turn ≡ unread desk → Steps desk Unreadable tree tree turn
@@ -42,21 +42,21 @@ module _ (desk : Desk) (tree : List ℕ) where
     pub was-asked :
         (n : ℕ) (part after : List ℕ) (done : Done) (turn : Turn) → not (desk .sized) ≡ false
         → n ≡ usedOf (desk .card .sizes .h) (desk .card .sizes .z) (length tree) → Plays (desk .card) w (take n tree) part done
-        → after ≡ part ++ drop n tree → turn ≡ told done → Steps desk line tree after turn
+        → after ≡ part ++ drop n tree → turn ≡ tells done → Steps desk line tree after turn
     unfolding askedFor
     was-asked n part after done turn h m p a e =
         let c = comes-to (desk .card) w (take n tree) part done p in
         steps-as desk line tree after turn (played desk tree w) (is ∙ rw (not-false (desk .sized) h))
-        (e ∙ ap told (c .0 ∙ ap (λ (x : ℕ). roundDone (desk .card) w (take x tree)) m))
+        (e ∙ ap tells (c .0 ∙ ap (λ (x : ℕ). roundDone (desk .card) w (take x tree)) m))
         (a ∙ ap (λ (x : List ℕ). x ++ drop n tree) (c .1) ∙ ap (λ (x : ℕ). roundTree (desk .card) w (take x tree) ++ drop x tree) m)
 
 -- FindMin
 module _ (desk : Desk) (turn : Turn) where
   pub min-unsized : not (desk .sized) ≡ true → turn ≡ unread desk → turn ≡ minOf desk
   unfolding minOf
-  min-unsized h e = e ∙ sym (ap (λ (x : Bool). cond x (told (leastOf (desk .card))) (unread desk)) (not-true (desk .sized) h))
+  min-unsized h e = e ∙ sym (ap (λ (x : Bool). cond x (tells (minDone (desk .card))) (unread desk)) (not-true (desk .sized) h))
 
   pub min-sized : not (desk .sized) ≡ false → (done : Done) → Answered (desk .card) (firstGiven (minTable (desk .card))) (foundMin (desk .card)) done
-      → turn ≡ told done → turn ≡ minOf desk
+      → turn ≡ tells done → turn ≡ minOf desk
   unfolding minOf
-  min-sized h done a e = rw (not-false (desk .sized) h) (e ∙ ap told (a .whole))
+  min-sized h done a e = rw (not-false (desk .sized) h) (e ∙ ap tells (a .whole))

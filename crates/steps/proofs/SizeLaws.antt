@@ -1,15 +1,15 @@
 -- `size`: refused with 1, too large, or afresh. Assumes nothing.
 use Prim.Native.Nat.{ℕ, _≤_, _<_}
-use mathlib.Core.Bool.{Bool, true, false, not, or-true, and-eq-true-iff}
+use mathlib.Core.Bool.{Bool, true, false, not, or-true}
 use mathlib.Core.List.{List, _++_}
 use mathlib.Core.Path.{_≡_, refl, sym, ap, _∙_}
-use native.Mathlib.Omega.{arith}
 use lib.Dec.{ltb}
 use lib.ListN.{length, take, drop}
 use lib.Seq.{length-take-le}
 use borrow.Author.Tests.{not-true, not-false, lt-ltb, le-ltb, eq-eqb}
 use Rattle.path.specs.Sizes.{sizesOf, treeIn, inRange}
 use Rattle.path.specs.Layout.{treeWords, freshTree}
+use Rattle.path.proofs.SizesLaws.{tree-range}
 use Rattle.refusal.specs.Refusal.{firstGiven}
 use Rattle.rack.specs.declared.Answer.{Answer}
 use Rattle.rack.specs.Answers.{fillRefusal}
@@ -20,7 +20,7 @@ use Rattle.card.specs.Calls.{zeroCard, startTable, started}
 use Rattle.lines.specs.declared.Line.the-variants.{Size}
 use Rattle.steps.specs.declared.Desk.{Desk}
 use Rattle.steps.specs.declared.Turn.{Turn}
-use Rattle.steps.specs.Step.{unread, kept, told, wordsOf, treeMost, tooLarge, Left, nothing, fresh, sizedTo, stepOf, Steps}
+use Rattle.steps.specs.Step.{unread, kept, tells, treeWordsUsed, treeMost, tooLarge, nothing, fresh, sizedTo, stepOf, Steps}
 use Rattle.steps.proofs.AskedLaws.{steps-as}
 
 module _ (desk : Desk) (h z r t : ℕ) (tree : List ℕ) (done : Done) (a : Answered zeroCard (firstGiven (startTable (sizesOf h z r t))) (started (sizesOf h z r t)) done)
@@ -36,7 +36,7 @@ module _ (desk : Desk) (h z r t : ℕ) (tree : List ℕ) (done : Done) (a : Answ
       let own : done ≡ refused zeroCard 1 = rw out at (a .whole) in
       steps-as desk (Size h z r t) tree tree turn _ (sized-as ∙ rw out) (k ∙ ap (λ (x : Done). kept desk (x .answer)) own) refl
 
-  module _ (u : not b ≡ false) (words : ℕ) (m : words ≡ wordsOf h z) where
+  module _ (u : not b ≡ false) (words : ℕ) (m : words ≡ treeWordsUsed h z) where
     within : inRange (sizesOf h z r t) ≡ true
     within = sym e ∙ not-false b u
 
@@ -54,26 +54,25 @@ module _ (desk : Desk) (h z r t : ℕ) (tree : List ℕ) (done : Done) (a : Answ
       small : tooLarge (length tree) (sizesOf h z r t) ≡ false
       small = rw (← m, le-ltb treeMost words few, le-ltb (length tree) words lent)
 
-      tree-range : treeIn h z ≡ true
-      unfolding inRange
-      tree-range = and-eq-true-iff (treeIn h z) _ .0 within .0
+      range : treeIn h z ≡ true
+      range = tree-range (sizesOf h z r t) within
 
       whole : words ≡ treeWords h z
-      unfolding wordsOf
-      whole = m ∙ rw tree-range
+      unfolding treeWordsUsed
+      whole = m ∙ rw range
 
       not-refused : fillRefusal h z (take words tree) ≡ 0
       unfolding firstGiven
-      not-refused = rw (tree-range, length-take-le words tree lent, eq-eqb words (treeWords h z) whole)
+      not-refused = rw (range, length-take-le words tree lent, eq-eqb words (treeWords h z) whole)
 
       begun : done ≡ started (sizesOf h z r t)
       unfolding startTable firstGiven orRefused
       begun = rw within at (a .whole)
 
       pub afresh : (s : Answer) (part after : List ℕ) → Fills h z (take words tree) s part → after ≡ part ++ drop words tree
-          → (turn : Turn) → turn ≡ told done → Steps desk (Size h z r t) tree after turn
+          → (turn : Turn) → turn ≡ tells done → Steps desk (Size h z r t) tree after turn
       unfolding sizedTo
       afresh s part after f p turn k =
           let due : part ≡ freshTree h z = rw not-refused at (f .lent) in
-          steps-as desk (Size h z r t) tree after turn (fresh desk tree (sizesOf h z r t)) (sized-as ∙ rw (within, small)) (k ∙ ap told begun)
+          steps-as desk (Size h z r t) tree after turn (fresh desk tree (sizesOf h z r t)) (sized-as ∙ rw (within, small)) (k ∙ ap tells begun)
           (p ∙ ap (λ (x : List ℕ). x ++ drop words tree) due ∙ ap (λ (x : ℕ). freshTree h z ++ drop x tree) m)

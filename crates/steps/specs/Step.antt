@@ -12,8 +12,8 @@ use Rattle.refusal.specs.Refusal.{firstGiven}
 use Rattle.card.specs.declared.Card.{Card}
 use Rattle.request.specs.declared.Waiting.{Waiting}
 use Rattle.request.specs.declared.Waiting.the-variants.{Insert as AskInsert, Extract as AskExtract, Delete as AskDelete}
-use Rattle.card.specs.declared.Answer.{Answer}
-use Rattle.card.specs.declared.Answer.the-variants.{Refused}
+use Rattle.answers.specs.declared.Answer.{Answer}
+use Rattle.answers.specs.declared.Answer.the-variants.{Refused}
 use Rattle.card.specs.declared.Done.{Done}
 use Rattle.card.specs.Answers.{orRefused}
 use Rattle.card.specs.Calls.{started, minTable, foundMin}
@@ -21,7 +21,6 @@ use Rattle.lines.specs.declared.Line.{Line}
 use Rattle.lines.specs.declared.Line.the-variants.{Unreadable, Size, Insert, Min, Extract, Delete}
 use Rattle.rounds.specs.Round.{roundDone, roundTree}
 use Rattle.steps.specs.declared.Desk.{Desk}
-use Rattle.steps.specs.declared.Reply.{Reply}
 use Rattle.steps.specs.declared.Reply.the-variants.{Unreadable as Question, Said}
 use Rattle.steps.specs.declared.Turn.{Turn}
 
@@ -35,39 +34,39 @@ abbrev pub kept : Desk → Answer → Turn
 kept desk answer = record { desk = desk; reply = Said answer }
 
 -- an answer, and the card that came of it
-abbrev pub told : Done → Turn
-told d = kept (record { sized = true; card = d .card }) (d .answer)
+abbrev pub tells : Done → Turn
+tells d = kept (record { sized = true; card = d .card }) (d .answer)
 
 -- ---- the tree at the head of the lent words
 -- "The tree has exactly 4(Z+1)(2N-2) words"; none for sizes out of range
-unfoldable pub wordsOf : ℕ → ℕ → ℕ
-wordsOf h z = cond (treeIn h z) (treeWords h z) 0
+unfoldable pub treeWordsUsed : ℕ → ℕ → ℕ
+treeWordsUsed h z = cond (treeIn h z) (treeWords h z) 0
 
 abbrev pub usedOf : ℕ → ℕ → ℕ → ℕ
-usedOf h z lent = min (wordsOf h z) lent
+usedOf h z lent = min (treeWordsUsed h z) lent
 
 abbrev pub treeMost : ℕ
 treeMost = 8192
 
 -- "a `size` within its ranges whose tree is over 8,192 words", or over what is lent
 abbrev pub tooLarge : ℕ → Sizes → Bool
-tooLarge lent s = ltb treeMost (wordsOf (s .h) (s .z)) || ltb lent (wordsOf (s .h) (s .z))
+tooLarge lent s = ltb treeMost (treeWordsUsed (s .h) (s .z)) || ltb lent (treeWordsUsed (s .h) (s .z))
 
 -- ---- what a line leaves: the desk with its reply, and every lent word
-pub record Left : Type 0 where
+pub record LineLeft : Type 0 where
   pub turn : Turn
   pub tree : List ℕ
 
 module _ (desk : Desk) (tree : List ℕ) where
-  abbrev pub nothing : Left
+  abbrev pub nothing : LineLeft
   nothing = record { turn = unread desk; tree = tree }
 
-  abbrev pub fresh : Sizes → Left
+  abbrev pub fresh : Sizes → LineLeft
   fresh s =
-      record { turn = told (started s); tree = freshTree (s .h) (s .z) ++ drop (wordsOf (s .h) (s .z)) tree }
+      record { turn = tells (started s); tree = freshTree (s .h) (s .z) ++ drop (treeWordsUsed (s .h) (s .z)) tree }
 
   -- "`size h Z R T` starts afresh"; one that is refused leaves the heap that was
-  unfoldable pub sizedTo : Sizes → Left
+  unfoldable pub sizedTo : Sizes → LineLeft
   sizedTo s =
       cond (inRange s) (cond (tooLarge (length tree) s) nothing (fresh s))
       (record { turn = kept desk (Refused 1); tree = tree })
@@ -79,22 +78,22 @@ module _ (desk : Desk) (tree : List ℕ) where
   abbrev pub rest : List ℕ
   rest = drop (usedOf (desk .card .sizes .h) (desk .card .sizes .z) (length tree)) tree
 
-  abbrev pub played : Waiting → Left
+  abbrev pub played : Waiting → LineLeft
   played w =
-      record { turn = told (roundDone (desk .card) w head); tree = roundTree (desk .card) w head ++ rest }
+      record { turn = tells (roundDone (desk .card) w head); tree = roundTree (desk .card) w head ++ rest }
 
   -- "one other than `size` before any accepted `size` .. prints `?`"
-  unfoldable pub askedFor : Waiting → Left
+  unfoldable pub askedFor : Waiting → LineLeft
   askedFor w = cond (desk .sized) (played w) nothing
 
 -- FindMin: no bucket is fetched
-abbrev pub leastOf : Card → Done
-leastOf k = orRefused k (firstGiven (minTable k)) (foundMin k)
+abbrev pub minDone : Card → Done
+minDone k = orRefused k (firstGiven (minTable k)) (foundMin k)
 
 unfoldable pub minOf : Desk → Turn
-minOf desk = cond (desk .sized) (told (leastOf (desk .card))) (unread desk)
+minOf desk = cond (desk .sized) (tells (minDone (desk .card))) (unread desk)
 
-unfoldable pub stepOf : Desk → Line → List ℕ → Left
+unfoldable pub stepOf : Desk → Line → List ℕ → LineLeft
 stepOf desk Unreadable tree = nothing desk tree
 stepOf desk (Size h z r t) tree = sizedTo desk tree (sizesOf h z r t)
 stepOf desk (Insert key value label first second) tree = askedFor desk tree (AskInsert key value label first second)

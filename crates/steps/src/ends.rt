@@ -1,10 +1,10 @@
 // The three ways a line ends: `?`, an answer that leaves the desk as it was, an answer with the card that came of it.
 ghost use mathlib.Core.Path.{_≡_};
-ghost use Rattle.steps.specs.Step.{unread, kept, told};
+ghost use Rattle.steps.specs.Step.{unread, kept, tells};
 use crate::Desk;
 use crate::Reply;
 use crate::Turn;
-use card::Answer;
+use answers::Answer;
 use card::Done;
 
 pub fn unread_by(desk: Desk) -> Turn
@@ -28,7 +28,7 @@ pub fn kept_by(desk: Desk, answer: Answer) -> Turn
 }
 
 pub fn told_by(done: Done) -> Turn
-    ensures { λ t. ⌜ t ≡ told done ⌝ }
+    ensures { λ t. ⌜ t ≡ tells done ⌝ }
 {
     let card = done.card;
     let desk = Desk {

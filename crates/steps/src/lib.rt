@@ -1,9 +1,9 @@
 // The desk between two lines, what a line leaves of it, and the three ways a line ends: document 01, "What the desk sees". For crates above.
-// Stands on `lines` and `rounds`.
+// Stands on `path`, `answers`, `card`, `copies`, `lines` and `rounds`.
 mod ends;
 mod room;
 
-use card::Answer;
+use answers::Answer;
 use card::Card;
 pub use ends::kept_by;
 pub use ends::told_by;

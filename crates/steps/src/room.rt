@@ -1,12 +1,11 @@
 // How many of the lent words are the tree: document 01, "The tree has exactly 4(Z+1)(2N-2) words".
 ghost use mathlib.Core.Path.{_≡_};
-ghost use Prim.Native.Nat.{min};
-ghost use Rattle.steps.specs.Step.{wordsOf, usedOf};
+ghost use Rattle.steps.specs.Step.{treeWordsUsed, usedOf};
 use path::tree_in_range;
 
 // The words of a tree of these sizes; none for sizes out of range.
 pub fn tree_words(h: u64, z: u64) -> usize
-    ensures { λ r. ⌜ r ≡ wordsOf h z ⌝ }
+    ensures { λ r. ⌜ r ≡ treeWordsUsed h z ⌝ }
 {
     if !tree_in_range(h, z) {
         return 0;

@@ -2,53 +2,49 @@
 use Prim.Native.Nat.{ℕ, zero, suc}
 use mathlib.Core.List.{List}
 use mathlib.Core.Path.{_≡_, refl, sym, ap, _∙_}
-use native.Mathlib.Omega.{arith}
-use borrow.Author.Tests.{ne-eqb}
 use Rattle.card.specs.declared.Card.{Card}
 use Rattle.card.specs.declared.Done.{Done}
-use Rattle.card.specs.Answers.{numberOf, valuesOf, refused, orRefused, Answered}
+use Rattle.answers.specs.Answers.{numberOf, valuesOf}
+use Rattle.card.specs.Answers.{orRefused, Answered}
 use Rattle.image.specs.Image.{imageOf}
-use Rattle.rack.specs.Refusals.{afterwards}
-use Rattle.told.specs.Told.{Called, Settled}
-
--- ---- what stands after a refusal, and after none
-pub kept : {A : Type 0} (n : ℕ) (done before : A) → (n ≡ 0 → ⊥) → afterwards n done before ≡ before
-kept zero done before h = absurd (h refl)
-kept (suc n) done before h = refl
+use Rattle.refusal.specs.Refusal.{afterwards}
+use Rattle.refusal.proofs.RefusalLaws.{left-before, left-done}
+use Rattle.told.specs.Told.{Said, Answering, Called, Settled}
 
 -- ---- settled
-module _ (done : Done) (held told : List ℕ) (n : ℕ) (e : n ≡ numberOf (done .answer)) where
-  pub settled-refused : (n ≡ 0 → ⊥) → Settled done held told n held told
-  settled-refused h =
-      record {
-        number = e;
-        card = rw (← e) (sym (kept n _ held h));
-        answer = rw (← e) (sym (kept n _ told h));
-      }
+module _
+    (done : Done) (held : List ℕ) (n : ℕ) (told′ : List ℕ) (s : Said (numberOf (done .answer)) (valuesOf (done .answer)) n told′)
+  where
+    pub settled-refused : (n ≡ 0 → ⊥) → Settled done held n held told′
+    settled-refused h = record { said = s; card = sym (left-before (numberOf (done .answer)) _ held (λ e. h (s .number ∙ e))) }
 
-  pub settled-done :
-      (held′ told′ : List ℕ) → n ≡ 0 → held′ ≡ imageOf (done .card) → told′ ≡ valuesOf (done .answer)
-      → Settled done held told n held′ told′
-  settled-done held′ told′ h c a = record { number = e; card = rw (← e, h) c; answer = rw (← e, h) a }
+    pub settled-done : (held′ : List ℕ) → n ≡ 0 → held′ ≡ imageOf (done .card) → Settled done held n held′ told′
+    settled-done held′ h c =
+        record { said = s; card = c ∙ sym (left-done (numberOf (done .answer)) _ held (sym (s .number) ∙ h)) }
 
 -- ---- a call that was settled
+module _ (k : Card) (number : ℕ) (done d : Done) (n : ℕ) (told′ : List ℕ) (a : Answered k number done d) where
+  pub answering : Said (numberOf (d .answer)) (valuesOf (d .answer)) n told′ → Answering number (done .answer) n told′
+  answering s = record { number = s .number ∙ a .numbered; answer = s .answer ∙ a .valued }
+
+  pub answered : Answering number (done .answer) n told′ → Said (numberOf (d .answer)) (valuesOf (d .answer)) n told′
+  answered s = record { number = s .number ∙ sym (a .numbered); answer = s .answer ∙ sym (a .valued) }
+
 by-number :
-    (k : Card) (number : ℕ) (done d : Done) (before : List ℕ) (f : Done → List ℕ) → d ≡ orRefused k number done
-    → afterwards number (f d) before ≡ afterwards number (f done) before
+    (k : Card) (number : ℕ) (done d : Done) (before : List ℕ) → d ≡ orRefused k number done
+    → afterwards number (imageOf (d .card)) before ≡ afterwards number (imageOf (done .card)) before
 unfolding orRefused
-by-number k zero done d before f e = ap f e
-by-number k (suc number) done d before f e = refl
+by-number k zero done d before e = ap (λ (x : Done). imageOf (x .card)) e
+by-number k (suc number) done d before e = refl
 
 pub called :
-    (k : Card) (number : ℕ) (done d : Done) (held told : List ℕ) (n : ℕ) (held′ told′ : List ℕ) → Answered k number done d
-    → Settled d held told n held′ told′ → Called number done held told n held′ told′
-called k number done d held told n held′ told′ a s =
+    (k : Card) (number : ℕ) (done d : Done) (held : List ℕ) (n : ℕ) (held′ told′ : List ℕ) → Answered k number done d
+    → Settled d held n held′ told′ → Called number done held n held′ told′
+called k number done d held n held′ told′ a s =
     let c = rw (a .numbered) at (s .card) in
-    let v = rw (a .numbered) at (s .answer) in
     record {
-      number = s .number ∙ a .numbered;
-      card = c ∙ by-number k number done d held (λ x. imageOf (x .card)) (a .whole);
-      answer = v ∙ by-number k number done d told (λ x. valuesOf (x .answer)) (a .whole);
+      said = answering k number done d n told′ a (s .said);
+      card = c ∙ by-number k number done d held (a .whole);
     }
 
 pub card-left :
@@ -56,6 +52,4 @@ pub card-left :
     → afterwards number (imageOf (done .card)) (imageOf k) ≡ imageOf (d .card)
 unfolding orRefused
 card-left k zero done d e = ap (λ (x : Done). imageOf (x .card)) (sym e)
-card-left k (suc number) done d e =
-    let f : d ≡ refused k (suc number) = e ∙ rw (ne-eqb (suc number) 0 (λ z. omega arith)) in
-    ap (λ (x : Done). imageOf (x .card)) (sym f)
+card-left k (suc number) done d e = ap (λ (x : Done). imageOf (x .card)) (sym e)

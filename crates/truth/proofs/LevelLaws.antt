@@ -25,7 +25,7 @@ use Rattle.gather.specs.Shown.{wholeAt}
 use Rattle.gather.proofs.ShownLaws.{fewer}
 use Rattle.sound.specs.Fetched.{shownIn, besideIn}
 use Rattle.sound.proofs.Checking.{level-room}
-use Rattle.sound.proofs.SoundLaws.{level-in}
+use Rattle.path.proofs.LevelLaws.{level-in}
 use Rattle.truth.specs.Leasts.{kidsShown, leastsTrue}
 
 module _ (z : ℕ) (path : List ℕ) (h d : ℕ) (room : 4 * (h * (z + 1)) ≤ length path) (some : 1 ≤ d) (most : d ≤ h) where

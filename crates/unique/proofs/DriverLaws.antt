@@ -23,14 +23,18 @@ use Rattle.driver.proofs.nwidarap_fetch.Kinds as fetch-kinds
 use Rattle.driver.proofs.nwidarap_fetch.Reads as fetch
 use Rattle.driver.proofs.nwidarap_store.Kinds as store-kinds
 use Rattle.driver.proofs.nwidarap_store.Reads as store
+use Rattle.told.proofs.say.Kinds as say-kinds
+use Rattle.told.proofs.say.Reads as say
 use Rattle.told.proofs.settle.Kinds as settle-kinds
 use Rattle.told.proofs.settle.Reads as settle
 use Rattle.told.proofs.tell.Kinds as tell-kinds
 use Rattle.told.proofs.tell.Reads as tell
-use Rattle.values.proofs.number_of.Kinds as number-of-kinds
-use Rattle.values.proofs.number_of.Reads as number-of
-use Rattle.values.proofs.values_of.Kinds as values-of-kinds
-use Rattle.values.proofs.values_of.Reads as values-of
+use Rattle.answers.proofs.number_of.Kinds as number-of-kinds
+use Rattle.answers.proofs.number_of.Reads as number-of
+use Rattle.answers.proofs.values_of.Kinds as values-of-kinds
+use Rattle.answers.proofs.values_of.Reads as values-of
+use Rattle.answers.proofs.answer_to.Kinds as answer-to-kinds
+use Rattle.answers.proofs.answer_to.Reads as answer-to
 use Rattle.held.proofs.card_of.Kinds as card-of-kinds
 use Rattle.held.proofs.card_of.Reads as card-of
 use Rattle.kinds.proofs.waiting_of.Kinds as waiting-of-kinds
@@ -47,37 +51,37 @@ use Rattle.image.proofs.write.Reads as write
 pub one-start : Determines 2 start-kinds.ps start-kinds.r start.Asked start.Learnt
 one-start =
     one-answer 2 start-kinds.ps start-kinds.r start.Asked start.Learnt _ _
-    (λ κs a ok x xs f p. (p .number, λ i. (p .card i, (p .answer i, (tt, (tt, (tt, (tt, tt))))))))
+    (λ κs a ok x xs f p. (p .said .number, λ i. (p .card i, (p .said .answer i, (tt, (tt, (tt, (tt, tt))))))))
 
 pub one-insert : Determines 3 insert-kinds.ps insert-kinds.r insert.Asked insert.Learnt
 one-insert =
     one-answer 3 insert-kinds.ps insert-kinds.r insert.Asked insert.Learnt _ _
-    (λ κs a ok x xs f p. (p .call .number, λ i. (p .call .card i, (p .call .answer i, (tt, (tt, (tt, (tt, (tt, (p .places i, tt))))))))))
+    (λ κs a ok x xs f p. (p .call .said .number, λ i. (p .call .card i, (p .call .said .answer i, (tt, (tt, (tt, (tt, (tt, (p .places i, tt))))))))))
 
 pub one-extract : Determines 3 extract-kinds.ps extract-kinds.r extract.Asked extract.Learnt
 one-extract =
     one-answer 3 extract-kinds.ps extract-kinds.r extract.Asked extract.Learnt _ _
-    (λ κs a ok x xs f p. (p .call .number, λ i. (p .call .card i, (p .call .answer i, (p .places i, tt)))))
+    (λ κs a ok x xs f p. (p .call .said .number, λ i. (p .call .card i, (p .call .said .answer i, (p .places i, tt)))))
 
 pub one-delete : Determines 3 delete-kinds.ps delete-kinds.r delete.Asked delete.Learnt
 one-delete =
     one-answer 3 delete-kinds.ps delete-kinds.r delete.Asked delete.Learnt _ _
-    (λ κs a ok x xs f p. (p .call .number, λ i. (p .call .card i, (p .call .answer i, (tt, (tt, (p .places i, tt)))))))
+    (λ κs a ok x xs f p. (p .call .said .number, λ i. (p .call .card i, (p .call .said .answer i, (tt, (tt, (p .places i, tt)))))))
 
 pub one-find-min : Determines 2 find-min-kinds.ps find-min-kinds.r find-min.Asked find-min.Learnt
 one-find-min =
     one-answer 2 find-min-kinds.ps find-min-kinds.r find-min.Asked find-min.Learnt _ _
-    (λ κs a ok x xs f p. (p .number, λ i. (p .card i, (p .answer i, tt))))
+    (λ κs a ok x xs f p. (p .number, λ i. (tt, (p .answer i, tt))))
 
 pub one-withdraw : Determines 2 withdraw-kinds.ps withdraw-kinds.r withdraw.Asked withdraw.Learnt
 one-withdraw =
     one-answer 2 withdraw-kinds.ps withdraw-kinds.r withdraw.Asked withdraw.Learnt _ _
-    (λ κs a ok x xs f p. (p .number, λ i. (p .card i, (p .answer i, tt))))
+    (λ κs a ok x xs f p. (p .said .number, λ i. (p .card i, (p .said .answer i, tt))))
 
 pub one-finish : Determines 3 finish-kinds.ps finish-kinds.r finish.Asked finish.Learnt
 one-finish =
     one-answer 3 finish-kinds.ps finish-kinds.r finish.Asked finish.Learnt _ _
-    (λ κs a ok x xs f p. (p .call .number, λ i. (p .call .card i, (p .call .answer i, (p .words i, tt)))))
+    (λ κs a ok x xs f p. (p .call .said .number, λ i. (p .call .card i, (p .call .said .answer i, (p .words i, tt)))))
 
 pub one-fill : Determines 2 fill-kinds.ps fill-kinds.r fill.Asked fill.Learnt
 one-fill =
@@ -94,15 +98,25 @@ one-store =
     one-answer 4 store-kinds.ps store-kinds.r store.Asked store.Learnt _ _
     (λ κs a ok x xs f p. (p .call .number, λ i. (p .call .answer i, (tt, (tt, (tt, (tt, (tt, (tt, (p .lent i, tt))))))))))
 
+pub one-say : Determines 1 say-kinds.ps say-kinds.r say.Asked say.Learnt
+one-say =
+    one-answer 1 say-kinds.ps say-kinds.r say.Asked say.Learnt _ _
+    (λ κs a ok x xs f p. (p .number, λ i. (tt, (p .answer i, tt))))
+
 pub one-settle : Determines 2 settle-kinds.ps settle-kinds.r settle.Asked settle.Learnt
 one-settle =
     one-answer 2 settle-kinds.ps settle-kinds.r settle.Asked settle.Learnt _ _
-    (λ κs a ok x xs f p. (p .number, λ i. (tt, (p .card i, (p .answer i, tt)))))
+    (λ κs a ok x xs f p. (p .said .number, λ i. (tt, (p .card i, (p .said .answer i, tt)))))
 
 pub one-tell : Determines 1 tell-kinds.ps tell-kinds.r tell.Asked tell.Learnt
 one-tell =
     one-answer 1 tell-kinds.ps tell-kinds.r tell.Asked tell.Learnt _ _
     (λ κs a ok x xs f p. (p .number, λ i. (tt, (p .answer i, tt))))
+
+pub one-answer-to : Determines 0 answer-to-kinds.ps answer-to-kinds.r answer-to.Asked answer-to.Learnt
+one-answer-to =
+    one-answer 0 answer-to-kinds.ps answer-to-kinds.r answer-to.Asked answer-to.Learnt _ _
+    (λ κs a ok x xs f p. (p, refl))
 
 pub one-number-of : Determines 0 number-of-kinds.ps number-of-kinds.r number-of.Asked number-of.Learnt
 one-number-of =

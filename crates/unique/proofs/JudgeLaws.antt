@@ -8,10 +8,12 @@ use Rattle.request.proofs.is_waiting.Kinds as is-waiting-kinds
 use Rattle.request.proofs.is_waiting.Reads as is-waiting
 use Rattle.request.proofs.why_request.Kinds as why-request-kinds
 use Rattle.request.proofs.why_request.Reads as why-request
-use Rattle.request.proofs.counts_for.Kinds as counts-for-kinds
-use Rattle.request.proofs.counts_for.Reads as counts-for
-use Rattle.request.proofs.fetched_for.Kinds as fetched-for-kinds
-use Rattle.request.proofs.fetched_for.Reads as fetched-for
+use Rattle.listing.proofs.list_for.Kinds as list-for-kinds
+use Rattle.listing.proofs.list_for.Reads as list-for
+use Rattle.listing.proofs.is_list_longer.Kinds as is-list-longer-kinds
+use Rattle.listing.proofs.is_list_longer.Reads as is-list-longer
+use Rattle.listing.proofs.are_words_more.Kinds as are-words-more-kinds
+use Rattle.listing.proofs.are_words_more.Reads as are-words-more
 use Rattle.root.proofs.slots_fine.Kinds as slots-fine-kinds
 use Rattle.root.proofs.slots_fine.Reads as slots-fine
 use Rattle.root.proofs.all_dummies.Kinds as all-dummies-kinds
@@ -30,6 +32,8 @@ use Rattle.checks.proofs.why_idle.Kinds as why-idle-kinds
 use Rattle.checks.proofs.why_idle.Reads as why-idle
 use Rattle.checks.proofs.why_begin.Kinds as why-begin-kinds
 use Rattle.checks.proofs.why_begin.Reads as why-begin
+use Rattle.checks.proofs.why_finish.Kinds as why-finish-kinds
+use Rattle.checks.proofs.why_finish.Reads as why-finish
 use Rattle.damage.proofs.path_damaged.Kinds as path-damaged-kinds
 use Rattle.damage.proofs.path_damaged.Reads as path-damaged
 use Rattle.damage.proofs.pair_damaged.Kinds as pair-damaged-kinds
@@ -65,14 +69,19 @@ one-why-request =
     one-answer 1 why-request-kinds.ps why-request-kinds.r why-request.Asked why-request.Learnt _ _
     (λ κs a ok x xs f p. (p, refl))
 
-pub one-counts-for : Determines 0 counts-for-kinds.ps counts-for-kinds.r counts-for.Asked counts-for.Learnt
-one-counts-for =
-    one-answer 0 counts-for-kinds.ps counts-for-kinds.r counts-for.Asked counts-for.Learnt _ _
+pub one-list-for : Determines 1 list-for-kinds.ps list-for-kinds.r list-for.Asked list-for.Learnt
+one-list-for =
+    one-answer 1 list-for-kinds.ps list-for-kinds.r list-for.Asked list-for.Learnt _ _
+    (λ κs a ok x xs f p. (p .counted, λ i. (tt, (tt, (tt, (p .places i, tt))))))
+
+pub one-is-list-longer : Determines 0 is-list-longer-kinds.ps is-list-longer-kinds.r is-list-longer.Asked is-list-longer.Learnt
+one-is-list-longer =
+    one-answer 0 is-list-longer-kinds.ps is-list-longer-kinds.r is-list-longer.Asked is-list-longer.Learnt _ _
     (λ κs a ok x xs f p. (p, refl))
 
-pub one-fetched-for : Determines 0 fetched-for-kinds.ps fetched-for-kinds.r fetched-for.Asked fetched-for.Learnt
-one-fetched-for =
-    one-answer 0 fetched-for-kinds.ps fetched-for-kinds.r fetched-for.Asked fetched-for.Learnt _ _
+pub one-are-words-more : Determines 0 are-words-more-kinds.ps are-words-more-kinds.r are-words-more.Asked are-words-more.Learnt
+one-are-words-more =
+    one-answer 0 are-words-more-kinds.ps are-words-more-kinds.r are-words-more.Asked are-words-more.Learnt _ _
     (λ κs a ok x xs f p. (p, refl))
 
 pub one-slots-fine : Determines 1 slots-fine-kinds.ps slots-fine-kinds.r slots-fine.Asked slots-fine.Learnt
@@ -118,6 +127,11 @@ one-why-idle =
 pub one-why-begin : Determines 0 why-begin-kinds.ps why-begin-kinds.r why-begin.Asked why-begin.Learnt
 one-why-begin =
     one-answer 0 why-begin-kinds.ps why-begin-kinds.r why-begin.Asked why-begin.Learnt _ _
+    (λ κs a ok x xs f p. (p, refl))
+
+pub one-why-finish : Determines 0 why-finish-kinds.ps why-finish-kinds.r why-finish.Asked why-finish.Learnt
+one-why-finish =
+    one-answer 0 why-finish-kinds.ps why-finish-kinds.r why-finish.Asked why-finish.Learnt _ _
     (λ κs a ok x xs f p. (p, refl))
 
 pub one-path-damaged : Determines 3 path-damaged-kinds.ps path-damaged-kinds.r path-damaged.Asked path-damaged.Learnt

@@ -6,7 +6,7 @@ use mathlib.Core.List.{List}
 use mathlib.Core.Path.{_≡_, ap}
 use Rattle.request.specs.declared.Waiting.{Waiting}
 use Rattle.card.specs.declared.Card.{Card}
-use Rattle.card.specs.declared.Answer.{Answer}
+use Rattle.answers.specs.declared.Answer.{Answer}
 use Rattle.card.specs.declared.Done.{Done}
 use Rattle.card.specs.Answers.{Answered}
 use Rattle.card.specs.Calls.{Begins}

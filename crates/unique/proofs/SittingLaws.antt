@@ -6,7 +6,7 @@ use mathlib.Core.Path.{_≡_, refl, _∙_, ap}
 use lib.ListN.{length, take, drop}
 use Rattle.frames.specs.Framing.{begunBy}
 use Rattle.output.specs.Output.{repliesTo, behindAll}
-use Rattle.output.specs.Room.{takenOf}
+use Rattle.output.specs.Room.{pieceTaken}
 use Rattle.sitting.specs.declared.Sitting.{Sitting}
 use Rattle.sitting.specs.declared.Fed.{Fed}
 use Rattle.sitting.specs.Sitting.{stateOf, openLine, heardIn, sittingOf, Feeds}
@@ -40,7 +40,7 @@ module _ (s : Sitting) (tree chunk out : List ℕ) where
   printedAt n written = repliesTo (stateOf s tree) (heardIn s chunk n) ++ drop written out
 
   abbrev all : ℕ
-  all = takenOf (stateOf s tree) (openLine s) (length out) chunk
+  all = pieceTaken (stateOf s tree) (openLine s) (length out) chunk
 
   module _ (r : Fed) (later printed : List ℕ) (p : Feeds s tree later chunk out r printed) where
     fed-whole : r ≡ fedAt all

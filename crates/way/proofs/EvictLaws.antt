@@ -14,10 +14,10 @@ use Rattle.record.specs.declared.Leaf.{Leaf}
 use Rattle.record.specs.declared.Record.{Record}
 use Rattle.record.specs.Standing.{dummy, isDummy}
 use Rattle.record.specs.Words.{recordAt, written, records}
-use Rattle.record.proofs.WordsLaws.{length-written, records-at, records-written}
+use Rattle.record.proofs.WordsLaws.{records-next, length-written, records-at, records-written}
 use Rattle.path.proofs.PathLaws.{holds-by-shift}
 use Rattle.way.specs.Evict.{seek, fits, movedTo, pull, pulls, evictUp, evict}
-use Rattle.way.proofs.WayLaws.{records-next, level-before}
+use Rattle.way.proofs.WayLaws.{level-before}
 
 -- ---- a search among the first n places, of which the first i have been passed
 abbrev pub seekFrom : (Record → Bool) → ℕ → List ℕ → ℕ → ℕ

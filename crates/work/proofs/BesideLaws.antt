@@ -1,23 +1,16 @@
 -- The work on a path looks at siblings at levels 1 to h alone; its buckets, at levels 2 to h. Assumes nothing.
-use Prim.Native.Nat.{ℕ, zero, suc, _+_, _-_, _≤_, _<_}
-use mathlib.Core.List.{List, map}
+use Prim.Native.Nat.{ℕ, zero, suc, _+_, _-_, _≤_}
+use mathlib.Core.List.{List}
 use mathlib.Core.Path.{_≡_, refl, ap, _∙_}
 use native.Mathlib.Omega.{arith}
 use Rattle.record.specs.declared.Leaf.{Leaf}
 use Rattle.record.specs.declared.Record.{Record}
 use Rattle.record.specs.Order.{leastOf}
 use Rattle.path.specs.declared.sizes.Sizes.{Sizes}
-use Rattle.path.specs.Path.{upFrom}
+use Rattle.path.proofs.LevelLaws.{map-same}
 use Rattle.path.specs.Layout.{Contents}
 use Rattle.least.specs.Least.{kids, mendedAt, mended}
 use Rattle.work.specs.PathWork.{slotsAfter, pathBuckets, leastAfter, PathWorked}
-
--- buckets that are the same at some levels
-map-same : (f g : ℕ → Contents) (a n : ℕ) → ((d : ℕ) → a ≤ d → d < a + n → f d ≡ g d) → map f (upFrom a n) ≡ map g (upFrom a n)
-unfolding upFrom
-map-same f g a zero same = refl
-map-same f g a (suc n) same =
-    rw (same a (omega arith) (omega arith), map-same f g (suc a) n (λ d l m. same d (omega arith) (omega arith)))
 
 module _ (h : ℕ) (q : Leaf) (slots : ℕ → List Record) (b b′ : ℕ → Record) (from : ℕ) (same : (d : ℕ) → from ≤ d → d ≤ h → b d ≡ b′ d) where
   pub kids-same : (j : ℕ) → j + from ≤ suc h → kids h q slots b j ≡ kids h q slots b′ j

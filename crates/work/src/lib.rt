@@ -5,8 +5,6 @@ mod removal;
 
 pub use removal::Removed;
 pub use removal::remove_path;
-ghost use Prim.Native.Nat.{_≤_};
-ghost use mathlib.Core.Path.{_≡_};
 ghost use Rattle.record.specs.Words.{records};
 ghost use Rattle.mend.specs.Mended.{MendRoom, besideAt};
 ghost use Rattle.work.specs.PathWork.{PathWorked};

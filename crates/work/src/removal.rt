@@ -1,7 +1,6 @@
 // The work of ExtractMin and Delete: document 01, "ExtractMin replaces the root's least record, wherever it is on the path,
 // by the dummy; Delete does so with the record that has this label and stamp, or answers Absent and removes nothing. Then
 // the path is evicted."
-ghost use Prim.Native.Nat.{_≤_};
 ghost use Rattle.record.specs.Words.{records};
 ghost use Rattle.clearing.specs.Removal.{named};
 ghost use Rattle.mend.specs.Mended.{MendRoom};
@@ -29,7 +28,7 @@ pub fn remove_path(
     label: Leaf,
     stamp: Stamp,
 ) -> Removed
-    requires { ⌜ (MendRoom sizes label (now path) (now w) (now sibs)) × (sizes .r ≤ 64) ⌝ }
+    requires { ⌜ MendRoom sizes label (now path) (now w) (now sibs) ⌝ }
     ensures { λ out. ⌜ PathRemoved sizes label (named label stamp) (records (now (sibs .entry))) (records (now (w .entry))) root (now (path .exit)) out ⌝ }
 {
     let found = clearing::clear(w, label, stamp);

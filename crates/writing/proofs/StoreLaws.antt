@@ -1,47 +1,19 @@
--- Words copied one by one, and buckets stored one by one: what each loop has done so far. Assumes nothing.
-use Prim.Native.Nat.{ℕ, suc, _+_, _*_, _-_, _≤_, _<_}
-use mathlib.Core.List.{List, _++_, append-nil}
+-- Buckets stored one by one: what the loop has done so far. Assumes nothing.
+use Prim.Native.Nat.{ℕ, _+_, _*_, _-_, _≤_, _<_}
+use mathlib.Core.List.{List, _++_}
 use mathlib.Core.Path.{_≡_, refl, sym, ap, _∙_}
 use native.Mathlib.Nat.{suc-mul, mul-le-mul-right, mul-left-comm}
 use native.Mathlib.Numerals.{add-one}
 use native.Mathlib.Omega.{arith}
-use lib.ListN.{length, set, getD, take, drop, length-set, drop-of-length-le}
-use lib.Seq.{set-at, drop-cons, take-suc, append-snoc, length-take-le, take-all, take-add}
+use lib.ListN.{length, take, drop}
+use lib.Seq.{length-take-le, take-all, take-add}
 use borrow.Rule.Slice.PartMut.{putMid, midOf, same-len-mid}
 use Rattle.path.specs.declared.sizes.Sizes.{Sizes}
 use Rattle.path.specs.Layout.{bucketWords}
 use Rattle.lists.proofs.ListLaws.{next-part}
 use Rattle.writing.specs.Stored.{Stored}
 
--- ---- a part takes other words: the first k are copied
-pub record Copying (from old now : List ℕ) (k : ℕ) : Type 0 where
-  pub room : length now ≡ length old
-  pub place : k ≤ length old
-  pub done : now ≡ take k from ++ drop k old
-
-module _ (from old : List ℕ) where
-  pub copying-starts : Copying from old old 0
-  copying-starts = record { room = refl; place = omega arith; done = refl }
-
-  module _ (same : length old ≡ length from) (now : List ℕ) (k : ℕ) (n : Copying from old now k) where
-    pub copying-turns : k < length old → Copying from old (set now k (getD from k 0)) (k + 1)
-    copying-turns l =
-        let front : length (take k from) ≡ k = length-take-le k from (omega arith) in
-        record {
-          room = length-set now k (getD from k 0) ∙ n .room;
-          place = omega arith;
-          done =
-              rw (n .done, drop-cons old k 0 l, set-at (take k from) _ _ (getD from k 0) k front, add-one, take-suc from k 0 (omega arith))
-              (sym (append-snoc (take k from) (getD from k 0) (drop (suc k) old)));
-        }
-
-    pub copying-ends : length old ≤ k → now ≡ from
-    copying-ends l =
-        let e : k ≡ length old = omega (arith, n .place) in
-        let all = rw (← same) at (take-all (length from) from (omega arith)) in
-        n .done ∙ rw (e, all, drop-of-length-le old {i = length old} (omega arith), append-nil)
-
--- ---- a path's buckets, each of `size` words: the first i are stored
+-- a path's buckets, each of `size` words: the first i are stored
 pub record Storing (size h : ℕ) (from old now : List ℕ) (moved start i : ℕ) : Type 0 where
   pub room : length now ≡ length old
   pub turns : i ≤ h

@@ -1,6 +1,5 @@
 -- `afresh::size` meets its contract: refused, too large, or afresh. Assumes nothing.
 use borrow.Author.Needs.{needs}
-use native.Mathlib.Omega.{arith}
 use mathlib.Core.Path.{refl, sym}
 use lib.Seq.{length-take-le}
 use Rattle.steps.proofs.SizeLaws.{size-refused, over-most, over-lent, afresh}

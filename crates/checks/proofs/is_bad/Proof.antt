@@ -1,7 +1,7 @@
 use borrow.Author.Needs.{needs}
 use mathlib.Core.Path.{sym, _∙_}
 use Rattle.record.specs.Words.{records}
-use Rattle.checks.proofs.CheckLaws.{sizes-fit}
+use Rattle.checks.proofs.CheckLaws.{parts-range}
 use Rattle.checks.proofs.is_bad.Statement.{statement}
 use Rattle.checks.proofs.is_bad.Tie as tie
 
@@ -14,8 +14,8 @@ returns c = rw (sym (c .before .are-parts-bad .ensures) ∙ c .if1 .taken)
 why-request-requires : tie.Need-why-request-requires
 why-request-requires c κs =
     let s = c .before .before .before .args in
-    let f = sizes-fit (s .sizes) (s .t) (s .c) (records (s .root .now)) (s .least) (sym (c .before .are-parts-bad .ensures) ∙ c .if1 .left) in
-    (f .0, (f .1, search needs))
+    let r = parts-range (s .sizes) (s .t) (s .c) (records (s .root .now)) (s .least) (sym (c .before .are-parts-bad .ensures) ∙ c .if1 .left) in
+    (r .tree .height .1, (r .roots .1, search needs))
 
 returns-2 : tie.Need-returns-2
 returns-2 c = rw (sym (c .before .before .are-parts-bad .ensures) ∙ c .before .if1 .left, c .why-request .ensures)

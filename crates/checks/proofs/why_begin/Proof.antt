@@ -5,8 +5,7 @@ use lib.ListN.{length}
 use Rattle.record.specs.declared.Record.{Record}
 use Rattle.gather.proofs.RootLaws.{length-mapped}
 use Rattle.refusal.specs.Refusal.{firstGiven}
-use Rattle.request.specs.Tables.{requestRows}
-use Rattle.checks.specs.Checks.{badWith, beginRows}
+use Rattle.checks.specs.Checks.{beginChecks}
 use Rattle.checks.proofs.CheckLaws.{root-loaded}
 use Rattle.checks.proofs.why_begin.Statement.{statement}
 use Rattle.checks.proofs.why_begin.Tie as tie
@@ -27,7 +26,7 @@ returns : tie.Need-returns
 returns c =
     let s = c .before .before .before .before .before .args in
     let long : length (s .root) ≡ 64 = search (needs, length-mapped, c .before .before .before .before .before .good) in
-    c .begins .ensures ∙ ap (λ (l : List Record). firstGiven (beginRows (badWith (s .sizes) (s .t) (s .c) l (s .least) (s .waiting)) (s .waiting) (requestRows (s .sizes) (s .t) (s .c) l (s .request)))) (root-loaded _ _ (s .root) (c .before .before .before .load-root .ensures) long refl)
+    c .begins .ensures ∙ ap (λ (l : List Record). firstGiven (beginChecks (s .sizes) (s .t) (s .c) l (s .least) (s .waiting) (s .request) (s .room))) (root-loaded _ _ (s .root) (c .before .before .before .load-root .ensures) long refl)
 
 pub why-begin-spec : {M : Type 1} → statement M
 why-begin-spec = tie.close (tie.spec slice-aggregate-load-root load-root-requires slice-aggregate-begins begins-requires returns)

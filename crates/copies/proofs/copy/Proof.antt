@@ -1,20 +1,18 @@
 -- `copies::copy` meets its contract. The loop: `Pasting`. Assumes nothing.
 use borrow.Author.Needs.{needs}
-use native.Mathlib.Omega.{arith}
 use Prim.Native.Nat.{_-_}
-use lib.ListN.{drop}
-use Rattle.copies.proofs.CopyLaws.{Pasting, pasting-starts, pasting-turns, pasting-ends}
+use Rattle.record.proofs.Pasting.{Pasting, pasting-starts, pasting-turns, pasting-ends}
 use Rattle.copies.proofs.copy.Statement.{statement}
 use Rattle.copies.proofs.copy.Tie as tie
 
 abbrev Inv-loop : tie.InvT-loop
-Inv-loop to₀ at from start n i₀ to i = Pasting to₀ (drop start from) to at n i
+Inv-loop to₀ at from start n i₀ to i = Pasting to₀ from at start n to i
 
 abbrev μ-loop : tie.MeasureT-loop
 μ-loop to₀ at from start n i₀ to i = n - i
 
 loop-holds : tie.Need-loop-holds Inv-loop μ-loop
-loop-holds c = pasting-starts _ _ _ _
+loop-holds c = pasting-starts _ _ _ _ _
 
 add-to : tie.Need-add-to Inv-loop μ-loop
 add-to c = search needs
@@ -42,13 +40,13 @@ loop-less c = search needs
 
 loop-again : tie.Need-loop-again Inv-loop μ-loop
 loop-again c =
-    pasting-turns _ _ _ _ _ _ _ (c .before .before .before .pre .0) (c .before .before .before .pre .1) (c .before .before .loop .inv) (c .before .loop-test .taken)
+    pasting-turns _ _ _ _ _ _ _ (c .before .before .loop .inv) (c .before .loop-test .taken) (c .before .before .before .pre .0) (c .before .before .before .pre .1)
 
 same-length : tie.Need-same-length Inv-loop μ-loop
 same-length c = c .before .loop .inv .room
 
 returns : tie.Need-returns Inv-loop μ-loop
-returns c = pasting-ends _ _ _ _ _ _ (c .before .loop .inv) (c .loop-test .left)
+returns c = pasting-ends _ _ _ _ _ _ _ (c .before .loop .inv) (c .loop-test .left)
 
 pub copy-spec : {M : Type 1} → statement M
 copy-spec =

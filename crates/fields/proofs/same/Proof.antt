@@ -5,13 +5,13 @@ use Prim.Native.Nat.{_-_, _≤_}
 use mathlib.Core.Path.{_≡_, refl, sym, _∙_}
 use lib.ListN.{length, drop}
 use borrow.Author.Tests.{eq-eqb, ne-eqb}
-use Rattle.fields.specs.Pieces.{same}
+use Rattle.fields.specs.Pieces.{sameBytes}
 use Rattle.fields.proofs.PiecesLaws.{other-length, same-next, all-same}
 use Rattle.fields.proofs.same.Statement.{statement}
 use Rattle.fields.proofs.same.Tie as tie
 
 abbrev Inv-loop : tie.InvT-loop
-Inv-loop a b i₀ i = (i ≤ length a) × (same a b ≡ same (drop i a) (drop i b))
+Inv-loop a b i₀ i = (i ≤ length a) × (sameBytes a b ≡ sameBytes (drop i a) (drop i b))
 
 abbrev μ-loop : tie.MeasureT-loop
 μ-loop a b i₀ i = length a - i

@@ -16,10 +16,14 @@ unsettled-requires c κs = search needs
 enum-known-waiting : tie.Need-enum-known-waiting
 enum-known-waiting c = search needs
 
+proper-requires : tie.Need-proper-requires
+proper-requires c κs = search needs
+
 settle-insertion-requires : tie.Need-settle-insertion-requires
 settle-insertion-requires c κs =
-    let s = c .before .before .before .before .before .args in
-    asked-for (s .sizes) (s .t) (s .c) (s .root) (s .least) (s .words .now) (s .waiting) (Insert _ _ _ _ _) (c .before .before .waiting .given .1) (c .before .before .before .before .before .pre)
+    let told = c .before .before .before in
+    let s = told .before .before .before .args in
+    asked-for (s .sizes) (s .t) (s .c) (s .root) (s .least) (s .words .now) (s .waiting) (Insert _ _ _ _ _) (told .waiting .given .1) (told .before .before .before .pre)
 
 enum-told-2 : tie.Need-enum-told-2
 enum-told-2 c = search needs
@@ -47,8 +51,11 @@ same-length c = search needs
 
 returns-2 : tie.Need-returns-2
 returns-2 c =
-    let s = c .before .before .before .before .before .before .before .before .args in
-    settled-for (s .sizes) (s .t) (s .c) (s .root) (s .least) (s .words .now) _ _ (s .waiting) (Insert _ _ _ _ _) (c .before .before .before .before .before .waiting .given .1) (c .before .before .settle-insertion .ensures)
+    let made = c .before .before .before .before in
+    let told = made .before .before in
+    let s = told .before .before .before .args in
+    settled-for (s .sizes) (s .t) (s .c) (s .root) (s .least) (s .words .now) _ _ (s .waiting) (Insert _ _ _ _ _) (told .waiting .given .1)
+    (rw (made .proper .ensures) at (c .before .before .settle-insertion .ensures))
 
 same-length-2 : tie.Need-same-length-2
 same-length-2 c = search needs
@@ -76,6 +83,7 @@ settle-request-spec =
     enum-told
     unsettled-requires
     enum-known-waiting
+    proper-requires
     settle-insertion-requires
     enum-told-2
     settle-removal-requires

@@ -2,12 +2,13 @@
 use borrow.Author.Needs.{needs}
 use native.Mathlib.Omega.{arith}
 use Prim.Native.Nat.{_-_}
-use Rattle.gather.proofs.Loading.{Copying, copying-starts, copying-turns, copying-ends}
+use Rattle.record.proofs.Pasting.{Pasting, pasting-starts, pasting-turns}
+use Rattle.gather.proofs.Loading.{pasting-laid}
 use Rattle.gather.proofs.copy.Statement.{statement}
 use Rattle.gather.proofs.copy.Tie as tie
 
 abbrev Inv-loop : tie.InvT-loop
-Inv-loop w₀ at src from n to first count k₀ w k = Copying w₀ src to first count w k
+Inv-loop w₀ at src from n to first count k₀ w k = Pasting w₀ src to first count w k
 
 abbrev μ-loop : tie.MeasureT-loop
 μ-loop w₀ at src from n to first count k₀ w k = count - k
@@ -22,7 +23,7 @@ mul-count : tie.Need-mul-count Inv-loop μ-loop
 mul-count c = search needs
 
 loop-holds : tie.Need-loop-holds Inv-loop μ-loop
-loop-holds c = copying-starts _ _ _ _ _
+loop-holds c = pasting-starts _ _ _ _ _
 
 add-w : tie.Need-add-w Inv-loop μ-loop
 add-w c = search needs
@@ -50,14 +51,14 @@ loop-less c = search needs
 
 loop-again : tie.Need-loop-again Inv-loop μ-loop
 loop-again c =
-    copying-turns _ _ _ _ _ _ _ (c .before .before .loop .inv) (c .before .loop-test .taken) (omega arith) (omega arith)
+    pasting-turns _ _ _ _ _ _ _ (c .before .before .loop .inv) (c .before .loop-test .taken) (omega arith) (omega arith)
 
 same-length : tie.Need-same-length Inv-loop μ-loop
 same-length c = c .before .loop .inv .room
 
 returns : tie.Need-returns Inv-loop μ-loop
 returns c =
-    copying-ends _ _ _ _ _ _ _ (c .before .loop .inv) (c .loop-test .left) (c .before .before .pre .1)
+    pasting-laid _ _ _ _ _ _ _ (c .before .loop .inv) (c .loop-test .left) (c .before .before .pre .1)
 
 pub copy-spec : {M : Type 1} → statement M
 copy-spec =

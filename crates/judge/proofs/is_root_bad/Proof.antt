@@ -13,7 +13,7 @@ slice-aggregate-slots-fine : tie.Need-slice-aggregate-slots-fine
 slice-aggregate-slots-fine c = sym (length-take-le _ (c .before .before .args .root .now) (omega arith))
 
 slots-fine-requires : tie.Need-slots-fine-requires
-slots-fine-requires c κs = length-take-le _ (c .before .before .args .root .now) (omega arith)
+slots-fine-requires c κs = search needs
 
 returns : tie.Need-returns
 returns c =
@@ -31,9 +31,6 @@ part-all-dummies-start c = search needs
 
 part-all-dummies-end : tie.Need-part-all-dummies-end
 part-all-dummies-end c = search needs
-
-sub-all-dummies-2 : tie.Need-sub-all-dummies-2
-sub-all-dummies-2 c = search needs
 
 all-dummies-requires : tie.Need-all-dummies-requires
 all-dummies-requires c κs = search needs
@@ -67,7 +64,6 @@ is-root-bad-spec =
     sub-all-dummies
     part-all-dummies-start
     part-all-dummies-end
-    sub-all-dummies-2
     all-dummies-requires
     returns-2
     slice-aggregate-stamp-twice

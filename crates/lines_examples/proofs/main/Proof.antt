@@ -1,7 +1,7 @@
 -- `lines_examples::main` is safe and ends. The loop: the buffers keep their lengths, and what is held fits. Its measure is the turns that are left. Assumes nothing.
 use borrow.Author.Needs.{needs}
 use native.Mathlib.Omega.{arith}
-use Prim.Native.Nat.{_-_, _≤_}
+use Prim.Native.Nat.{_≤_}
 use mathlib.Core.Path.{_≡_, sym}
 use lib.ListN.{length}
 use lib.Seq.{length-take-le}

@@ -1,8 +1,7 @@
 use borrow.Author.Needs.{needs}
 use native.Mathlib.Omega.{arith}
 use Prim.Native.Nat.{suc, _-_}
-use mathlib.Core.Path.{ap, _∙_}
-use lib.ListN.{length}
+use mathlib.Core.Path.{ap}
 use Rattle.path.specs.Path.{pathBucket, number}
 use Rattle.lists.proofs.Naming.{Naming, naming-starts, naming-fits, naming-turns, naming-ends, path-named}
 use Rattle.lists.proofs.name_path.Statement.{statement}

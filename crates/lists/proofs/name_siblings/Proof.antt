@@ -2,7 +2,6 @@ use borrow.Author.Needs.{needs}
 use native.Mathlib.Omega.{arith}
 use Prim.Native.Nat.{suc, _-_}
 use mathlib.Core.Path.{ap, _∙_}
-use lib.ListN.{length}
 use Rattle.path.specs.Path.{pathBucket, siblingOf, number}
 use Rattle.lists.proofs.Naming.{Naming, naming-starts, naming-fits, naming-turns, naming-ends, siblings-named}
 use Rattle.lists.proofs.name_siblings.Statement.{statement}

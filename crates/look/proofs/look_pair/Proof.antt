@@ -1,7 +1,6 @@
 use borrow.Author.Needs.{needs}
 use native.Mathlib.Omega.{arith}
 use Prim.Native.Nat.{_+_, _-_}
-use mathlib.Core.Path.{_∙_}
 use Rattle.look.proofs.PairLaws.{both-given, first-room, second-room, pair-looks}
 use Rattle.look.proofs.look_pair.Statement.{statement}
 use Rattle.look.proofs.look_pair.Tie as tie

@@ -39,6 +39,7 @@ work-path-requires-2 c κs =
     record {
       height = two .height;
       width = two .width;
+      roots = two .roots;
       leaf = two .leaf;
       buckets = two .buckets;
       slots = c .before .before .before .before .before .before .before .before .before .before .before .before .before .before .before .load-path .kept .0 ∙ c .before .before .before .before .before .before .before .before .before .before .before .before .before .before .before .before .before .before .before .before .before .work-path .kept .0 ∙ c .before .before .before .before .before .before .before .before .before .before .before .before .before .before .before .before .before .before .before .before .before .before .before .before .before .before .before .seat .kept .0 ∙ two .slots;

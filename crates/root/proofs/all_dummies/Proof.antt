@@ -8,7 +8,7 @@ use lib.ListN.{take}
 use Rattle.record.specs.Standing.{isDummy}
 use Rattle.record.specs.Words.{records}
 use Rattle.record.specs.Many.{every}
-use Rattle.root.proofs.Slots.{pass-starts, pass-turns, pass-fails, pass-ends}
+use Rattle.record.proofs.PlacesLaws.{pass-starts, pass-turns, pass-fails, pass-ends}
 use Rattle.root.proofs.all_dummies.Statement.{statement}
 use Rattle.root.proofs.all_dummies.Tie as tie
 
@@ -19,7 +19,7 @@ abbrev μ-loop : tie.MeasureT-loop
 μ-loop places n i₀ i = n - i
 
 loop-holds : tie.Need-loop-holds Inv-loop μ-loop
-loop-holds c = (omega arith, pass-starts (c .before .args .places .now) _ (c .before .pre) isDummy)
+loop-holds c = (omega arith, pass-starts isDummy)
 
 read-requires : tie.Need-read-requires Inv-loop μ-loop
 read-requires c κs = search needs
@@ -30,7 +30,7 @@ is-dummy-requires c κs = search needs
 returns : tie.Need-returns Inv-loop μ-loop
 returns c =
     let t = sym (ap isDummy (c .before .before .read .ensures)) ∙ sym (c .before .is-dummy .ensures) ∙ not-true _ (c .if1 .taken) in
-    sym (pass-fails _ _ (c .before .before .before .before .before .before .pre) isDummy (c .before .before .before .before .loop .i) (omega arith) t)
+    sym (pass-fails isDummy _ (c .before .before .before .before .loop .i) (omega arith) t)
 
 add-i : tie.Need-add-i Inv-loop μ-loop
 add-i c = search needs
@@ -41,11 +41,11 @@ loop-less c = search needs
 loop-again : tie.Need-loop-again Inv-loop μ-loop
 loop-again c =
     let t = sym (ap isDummy (c .before .before .read .ensures)) ∙ sym (c .before .is-dummy .ensures) ∙ not-false _ (c .if1 .left) in
-    (omega arith, pass-turns _ _ (c .before .before .before .before .before .before .pre) isDummy (c .before .before .before .before .loop .i) (omega arith) (c .before .before .before .before .loop .inv .1) t)
+    (omega arith, pass-turns isDummy _ (c .before .before .before .before .loop .i) (omega arith) (c .before .before .before .before .loop .inv .1) t)
 
 returns-2 : tie.Need-returns-2 Inv-loop μ-loop
 returns-2 c =
-    sym (pass-ends _ _ (c .before .before .before .pre) isDummy (c .before .loop .i) (omega arith) (c .before .loop .inv .1))
+    sym (pass-ends isDummy _ (c .before .loop .i) (omega arith) (c .before .loop .inv .1))
 
 pub all-dummies-spec : {M : Type 1} → statement M
 all-dummies-spec =

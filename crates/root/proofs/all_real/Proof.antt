@@ -8,7 +8,7 @@ use Rattle.record.specs.declared.Record.{Record}
 use Rattle.record.specs.Standing.{isDummy}
 use Rattle.record.specs.Words.{records}
 use Rattle.record.specs.Many.{every}
-use Rattle.root.proofs.Slots.{pass-starts, pass-turns, pass-fails, pass-ends}
+use Rattle.record.proofs.PlacesLaws.{pass-starts, pass-turns, pass-fails, pass-ends}
 use Rattle.root.proofs.all_real.Statement.{statement}
 use Rattle.root.proofs.all_real.Tie as tie
 
@@ -22,7 +22,7 @@ abbrev real : Record → Bool
 real x = not (isDummy x)
 
 loop-holds : tie.Need-loop-holds Inv-loop μ-loop
-loop-holds c = (omega arith, pass-starts (c .before .args .slots .now) _ (c .before .pre) real)
+loop-holds c = (omega arith, pass-starts real)
 
 read-requires : tie.Need-read-requires Inv-loop μ-loop
 read-requires c κs = search needs
@@ -33,7 +33,7 @@ is-dummy-requires c κs = search needs
 returns : tie.Need-returns Inv-loop μ-loop
 returns c =
     let t = ap real (sym (c .before .before .read .ensures)) ∙ ap not (sym (c .before .is-dummy .ensures) ∙ c .if1 .taken) in
-    sym (pass-fails _ _ (c .before .before .before .before .before .before .pre) real (c .before .before .before .before .loop .i) (omega arith) t)
+    sym (pass-fails real _ (c .before .before .before .before .loop .i) (omega arith) t)
 
 add-i : tie.Need-add-i Inv-loop μ-loop
 add-i c = search needs
@@ -44,11 +44,11 @@ loop-less c = search needs
 loop-again : tie.Need-loop-again Inv-loop μ-loop
 loop-again c =
     let t = ap real (sym (c .before .before .read .ensures)) ∙ ap not (sym (c .before .is-dummy .ensures) ∙ c .if1 .left) in
-    (omega arith, pass-turns _ _ (c .before .before .before .before .before .before .pre) real (c .before .before .before .before .loop .i) (omega arith) (c .before .before .before .before .loop .inv .1) t)
+    (omega arith, pass-turns real _ (c .before .before .before .before .loop .i) (omega arith) (c .before .before .before .before .loop .inv .1) t)
 
 returns-2 : tie.Need-returns-2 Inv-loop μ-loop
 returns-2 c =
-    sym (pass-ends _ _ (c .before .before .before .pre) real (c .before .loop .i) (omega arith) (c .before .loop .inv .1))
+    sym (pass-ends real _ (c .before .loop .i) (omega arith) (c .before .loop .inv .1))
 
 pub all-real-spec : {M : Type 1} → statement M
 all-real-spec =

@@ -11,13 +11,13 @@ use Rattle.root.proofs.slots_fine.Statement.{statement}
 use Rattle.root.proofs.slots_fine.Tie as tie
 
 abbrev Inv-loop : tie.InvT-loop
-Inv-loop slots n leaves next least live count₀ i₀ count i = Fine slots n leaves next least i count
+Inv-loop slots leaves next least live n count₀ i₀ count i = Fine slots leaves next least i count
 
 abbrev μ-loop : tie.MeasureT-loop
-μ-loop slots n leaves next least live count₀ i₀ count i = n - i
+μ-loop slots leaves next least live n count₀ i₀ count i = n - i
 
 loop-holds : tie.Need-loop-holds Inv-loop μ-loop
-loop-holds c = fine-starts (c .before .args .slots .now) _ (c .before .pre) _ _ _
+loop-holds c = fine-starts (c .before .args .slots .now) _ _ _
 
 read-requires : tie.Need-read-requires Inv-loop μ-loop
 read-requires c κs = search needs
@@ -33,7 +33,7 @@ returns c =
     let s = c .before .before .before .before .before .before .before .before .args in
     let e = ap isDummy (sym (c .before .before .before .before .read .ensures)) ∙ sym (c .before .before .before .is-dummy .ensures) ∙ not-true _ (c .before .before .if1 .taken) in
     let f = ap (isProper (s .leaves) (s .next)) (sym (c .before .before .before .before .read .ensures)) ∙ sym (c .before .is-proper .ensures) ∙ not-true _ (c .if2 .taken) in
-    sym (strange-place (s .slots .now) (s .n) (c .before .before .before .before .before .before .before .before .pre) (s .leaves) (s .next) (s .least) (c .before .before .before .before .before .before .loop .i) (c .before .before .before .before .before .before .loop .count) (omega arith) (s .live) e f)
+    sym (strange-place (s .slots .now) (s .leaves) (s .next) (s .least) (c .before .before .before .before .before .before .loop .i) (c .before .before .before .before .before .before .loop .count) (omega arith) (s .live) e f)
 
 no-later-requires : tie.Need-no-later-requires Inv-loop μ-loop
 no-later-requires c κs = search needs
@@ -43,7 +43,7 @@ returns-2 c =
     let s = c .before .before .before .before .before .before .before .before .before .before .args in
     let e = ap isDummy (sym (c .before .before .before .before .before .before .read .ensures)) ∙ sym (c .before .before .before .before .before .is-dummy .ensures) ∙ not-true _ (c .before .before .before .before .if1 .taken) in
     let f = ap (noLater (s .least)) (sym (c .before .before .before .before .before .before .read .ensures)) ∙ sym (c .before .no-later .ensures) ∙ not-true _ (c .if3 .taken) in
-    sym (earlier-place (s .slots .now) (s .n) (c .before .before .before .before .before .before .before .before .before .before .pre) (s .leaves) (s .next) (s .least) (c .before .before .before .before .before .before .before .before .loop .i) (c .before .before .before .before .before .before .before .before .loop .count) (omega arith) (s .live) e f)
+    sym (earlier-place (s .slots .now) (s .leaves) (s .next) (s .least) (c .before .before .before .before .before .before .before .before .loop .i) (c .before .before .before .before .before .before .before .before .loop .count) (omega arith) (s .live) e f)
 
 add-count : tie.Need-add-count Inv-loop μ-loop
 add-count c =
@@ -63,14 +63,14 @@ loop-again c =
     (λ w.
     let p = ap (isProper (s .leaves) (s .next)) (sym (c .before .before .read .ensures)) ∙ sym (w .1 .ensures) ∙ not-false _ (w .2 .left) in
     let l = ap (noLater (s .least)) (sym (c .before .before .read .ensures)) ∙ sym (w .3 .ensures) ∙ not-false _ (w .4 .left) in
-    rw (w .5) (fine-record (s .slots .now) (s .n) (c .before .before .before .before .before .before .pre) (s .leaves) (s .next) (s .least) (c .before .before .before .before .loop .i) (c .before .before .before .before .loop .count) (omega arith) (c .before .before .before .before .loop .inv) (d ∙ not-true _ (w .0 .taken)) p l))
-    (λ w. rw (w .1) (fine-dummy (s .slots .now) (s .n) (c .before .before .before .before .before .before .pre) (s .leaves) (s .next) (s .least) (c .before .before .before .before .loop .i) (c .before .before .before .before .loop .count) (omega arith) (c .before .before .before .before .loop .inv) (d ∙ not-false _ (w .0 .left))))
+    rw (w .5) (fine-record (s .slots .now) (s .leaves) (s .next) (s .least) (c .before .before .before .before .loop .i) (c .before .before .before .before .loop .count) (omega arith) (c .before .before .before .before .loop .inv) (d ∙ not-true _ (w .0 .taken)) p l))
+    (λ w. rw (w .1) (fine-dummy (s .slots .now) (s .leaves) (s .next) (s .least) (c .before .before .before .before .loop .i) (c .before .before .before .before .loop .count) (omega arith) (c .before .before .before .before .loop .inv) (d ∙ not-false _ (w .0 .left))))
     (c .if1 .came)
 
 returns-3 : tie.Need-returns-3 Inv-loop μ-loop
 returns-3 c =
     let s = c .before .before .before .args in
-    sym (fine-ends (s .slots .now) (s .n) (c .before .before .before .pre) (s .leaves) (s .next) (s .least) (c .before .loop .i) (c .before .loop .count) (s .live) (c .before .loop .inv) (omega arith))
+    sym (fine-ends (s .slots .now) (s .leaves) (s .next) (s .least) (c .before .loop .i) (c .before .loop .count) (s .live) (c .before .loop .inv) (omega arith))
 
 pub slots-fine-spec : {M : Type 1} → statement M
 slots-fine-spec =

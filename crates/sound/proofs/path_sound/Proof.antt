@@ -9,8 +9,7 @@ use Rattle.record.specs.Many.{every}
 use Rattle.path.specs.Path.{pathBucket}
 use Rattle.sound.specs.Sound.{sound, pathSound}
 use Rattle.sound.specs.Fetched.{shownIn}
-use Rattle.sound.proofs.Checking.{passes, refuses, Passed, passed-starts, passed-turns, passed-fails, passed-ends, from-one}
-use Rattle.sound.proofs.Checking.{Walking, walking-turns, walking-ends, bucket-shown}
+use Rattle.sound.proofs.Checking.{passes, refuses, Passed, passed-starts, passed-turns, passed-fails, passed-ends, from-one, Walking, walking-turns, walking-ends, bucket-shown}
 use Rattle.sound.proofs.path_sound.Statement.{statement}
 use Rattle.sound.proofs.path_sound.Tie as tie
 

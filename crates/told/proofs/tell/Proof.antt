@@ -1,8 +1,5 @@
--- `tell` meets its contract: a refusal writes nothing. Assumes nothing.
+-- `tell` meets its contract: six zeros, refused or not. Assumes nothing.
 use borrow.Author.Needs.{needs}
-use mathlib.Core.Path.{_≡_, sym, _∙_}
-use Rattle.rack.specs.Answers.{answerNumber}
-use Rattle.told.proofs.ToldLaws.{kept}
 use Rattle.told.proofs.tell.Statement.{statement}
 use Rattle.told.proofs.tell.Tie as tie
 
@@ -12,12 +9,5 @@ number-requires c κs = search needs
 returns : tie.Need-returns
 returns c = search needs
 
-returns-2 : tie.Need-returns-2
-returns-2 c =
-    record {
-      number = c .before .number .ensures;
-      answer = sym (kept (answerNumber (c .before .before .args .said)) _ _ (λ e. c .if1 .left (c .before .number .ensures ∙ e)));
-    }
-
 pub tell-spec : {M : Type 1} → statement M
-tell-spec = tie.close (tie.spec number-requires returns returns-2)
+tell-spec = tie.close (tie.spec number-requires returns)

@@ -7,8 +7,7 @@ use mathlib.Core.Path.{_≡_, sym, _∙_}
 use borrow.Author.Tests.{not-true, not-false}
 use Rattle.record.specs.Words.{records}
 use Rattle.way.specs.Evict.{seek}
-use Rattle.way.proofs.EvictLaws.{seekFrom, seek-starts, seek-turns, seek-found, seek-ends}
-use Rattle.way.proofs.EvictLaws.{agrees, agrees-dummy, agrees-own, agrees-other, agrees-fits}
+use Rattle.way.proofs.EvictLaws.{seekFrom, seek-starts, seek-turns, seek-found, seek-ends, agrees, agrees-dummy, agrees-own, agrees-other, agrees-fits}
 use Rattle.way.proofs.first_fit.Statement.{statement}
 use Rattle.way.proofs.first_fit.Tie as tie
 

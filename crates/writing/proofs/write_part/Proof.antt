@@ -1,19 +1,22 @@
 -- `write_part`: the first k words are copied. Assumes nothing.
 use borrow.Author.Needs.{needs}
 use Prim.Native.Nat.{_-_}
+use mathlib.Core.Path.{refl, sym}
+use native.Mathlib.Nat.{zero-add}
+use native.Mathlib.Omega.{arith}
 use lib.ListN.{length}
-use Rattle.writing.proofs.StoreLaws.{Copying, copying-starts, copying-turns, copying-ends}
+use Rattle.record.proofs.Pasting.{Pasting, pasting-starts, pasting-turns, pasting-whole}
 use Rattle.writing.proofs.write_part.Statement.{statement}
 use Rattle.writing.proofs.write_part.Tie as tie
 
 abbrev Inv-loop : tie.InvT-loop
-Inv-loop part₀ from k₀ k-end part k = Copying from part₀ part k
+Inv-loop part₀ from k₀ k-end part k = Pasting part₀ from 0 0 (length part₀) part k
 
 abbrev μ-loop : tie.MeasureT-loop
 μ-loop part₀ from k₀ k-end part k = length part₀ - k
 
 loop-holds : tie.Need-loop-holds Inv-loop μ-loop
-loop-holds c = copying-starts _ _
+loop-holds c = pasting-starts _ _ _ _ _
 
 mul-part : tie.Need-mul-part Inv-loop μ-loop
 mul-part c = search needs
@@ -35,13 +38,15 @@ loop-less c = search needs
 
 loop-again : tie.Need-loop-again Inv-loop μ-loop
 loop-again c =
-    copying-turns _ _ (c .before .before .before .pre) _ _ (c .before .before .loop .inv) (c .before .loop-test .taken)
+    rw zero-add at
+    (pasting-turns _ _ _ _ _ _ _ (c .before .before .loop .inv) (c .before .loop-test .taken) (omega arith) (omega arith))
 
 same-length : tie.Need-same-length Inv-loop μ-loop
 same-length c = c .before .loop .inv .room
 
 returns : tie.Need-returns Inv-loop μ-loop
-returns c = copying-ends _ _ (c .before .before .pre) _ _ (c .before .loop .inv) (c .loop-test .left)
+returns c =
+    pasting-whole _ _ _ _ _ (c .before .loop .inv) (c .loop-test .left) refl (sym (c .before .before .pre))
 
 pub write-part-spec : {M : Type 1} → statement M
 write-part-spec =

@@ -1,4 +1,5 @@
 use borrow.Author.Needs.{needs}
+use Rattle.lists.specs.BucketList.{wordsMoved, sum}
 use Rattle.card.proofs.CheckLaws.{min-refused, min-empty, min-done}
 use Rattle.card.proofs.Card.find_min.Statement.{statement}
 use Rattle.card.proofs.Card.find_min.Tie as tie
@@ -21,6 +22,7 @@ returns-2 c =
     rw (c .refuse2 .ensures) (min-empty (c .before .before .before .before .before .before .before .args .self) _ (c .before .before .before .before .why-busy .ensures) (c .before .before .before .if1 .left) (c .before .if2 .taken))
 
 returns-3 : tie.Need-returns-3
+unfolding wordsMoved sum
 returns-3 c =
     min-done (c .before .before .before .before .before .before .args .self) _ (c .before .before .before .why-busy .ensures) (c .before .before .if1 .left) (c .if2 .left)
 

@@ -1,7 +1,5 @@
 use borrow.Author.Needs.{needs}
-use mathlib.Core.Path.{_≡_, sym, _∙_}
-use lib.ListN.{length}
-use Rattle.card.proofs.FinishLaws.{entered, clock-fits, request-ready}
+use Rattle.card.proofs.FinishLaws.{entry-given, checked-entry, checked-ready, checked-clock}
 use Rattle.card.proofs.FinishedLaws.{entry-refused, request-damaged, request-done}
 use Rattle.card.proofs.Card.finish.Statement.{statement}
 use Rattle.card.proofs.Card.finish.Tie as tie
@@ -14,13 +12,15 @@ refuse-requires c κs = search needs
 
 returns : tie.Need-returns
 returns c =
-    let s = c .before .before .before .before .args in
-    rw (c .refuse .ensures) (entry-refused (s .self) (s .words .now) _ (c .before .before .why-finish .ensures) (c .before .if1 .taken))
+    let entry = c .before .before in
+    let s = entry .before .before .before .before .args in
+    rw (c .refuse .ensures) (entry-refused (s .self) (s .words .now) _ (entry-given (s .self) _ _ (entry .why-finish .ensures)) (c .before .if1 .taken))
 
 settle-request-requires : tie.Need-settle-request-requires
 settle-request-requires c κs =
-    let s = c .before .before .before .before .before .before .args in
-    request-ready (s .self) (s .words .now) (sym (c .before .before .before .before .why-finish .ensures) ∙ c .before .before .before .if1 .left)
+    let entry = c .before .before in
+    let s = entry .before .before .before .before .args in
+    checked-ready (s .self) (s .words .now) _ (entry .why-finish .ensures) (c .before .if1 .left)
 
 refuse-requires-2 : tie.Need-refuse-requires-2
 refuse-requires-2 c κs = search needs
@@ -30,21 +30,27 @@ same-length c = search needs
 
 returns-2 : tie.Need-returns-2
 returns-2 c =
-    let s = c .before .before .before .before .before .before .before .before .before .before .before .args in
-    request-damaged (s .self) (s .words .now) (sym (c .before .before .before .before .before .before .before .before .before .why-finish .ensures) ∙ c .before .before .before .before .before .before .before .before .if1 .left) _ _ (c .before .before .before .before .settle-request .ensures) _ (c .before .if2 .taken) (c .refuse2 .ensures)
+    let settled = c .before .before .before .before in
+    let entry = settled .before .before .before in
+    let s = entry .before .before .before .before .args in
+    request-damaged (s .self) (s .words .now) (checked-entry (s .self) (s .words .now) _ (entry .why-finish .ensures) (settled .before .before .if1 .left)) _ _ (settled .settle-request .ensures) _ (c .before .if2 .taken) (c .refuse2 .ensures)
 
 done-with-requires : tie.Need-done-with-requires
 done-with-requires c κs =
-    let s = c .before .before .before .before .before .before .before .before .before .before .args in
-    clock-fits (s .self) (entered (s .self) (length (s .words .now)) (sym (c .before .before .before .before .before .before .before .before .why-finish .ensures) ∙ c .before .before .before .before .before .before .before .if1 .left) .card)
+    let settled = c .before .before .before in
+    let entry = settled .before .before .before in
+    let s = entry .before .before .before .before .args in
+    checked-clock (s .self) (s .words .now) _ (entry .why-finish .ensures) (settled .before .before .if1 .left)
 
 same-length-2 : tie.Need-same-length-2
 same-length-2 c = search needs
 
 returns-3 : tie.Need-returns-3
 returns-3 c =
-    let s = c .before .before .before .before .before .before .before .before .before .before .before .args in
-    request-done (s .self) (s .words .now) (sym (c .before .before .before .before .before .before .before .before .before .why-finish .ensures) ∙ c .before .before .before .before .before .before .before .before .if1 .left) _ _ (c .before .before .before .before .settle-request .ensures) _ (c .before .if2 .left) (c .done-with .ensures)
+    let settled = c .before .before .before .before in
+    let entry = settled .before .before .before in
+    let s = entry .before .before .before .before .args in
+    request-done (s .self) (s .words .now) (checked-entry (s .self) (s .words .now) _ (entry .why-finish .ensures) (settled .before .before .if1 .left)) _ _ (settled .settle-request .ensures) _ (c .before .if2 .left) (c .done-with .ensures)
 
 pub finish-spec : {M : Type 1} → statement M
 finish-spec =

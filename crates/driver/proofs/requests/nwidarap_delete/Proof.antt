@@ -20,7 +20,7 @@ same-length c = search needs
 returns : tie.Need-returns
 returns c =
     let a = c .before .before .before .before .before .before .before .before .before .before .args in
-    held-begin (Delete (record { 0 = a .label }) (record { 0 = a .stamp })) (a .card .now) (a .answer .now) (a .list .now) _ _ _ _ _ _ (c .before .before .before .before .before .before .before .card-of .ensures) (c .before .before .before .before .before .begin-delete .ensures) (c .settle .ensures)
+    held-begin (Delete (record { 0 = a .label }) (record { 0 = a .stamp })) (a .card .now) (a .list .now) _ _ _ _ _ _ (c .before .before .before .before .before .before .before .card-of .ensures) (c .before .before .before .before .before .begin-delete .ensures) (c .settle .ensures)
 
 pub nwidarap-delete-spec : {M : Type 1} → statement M
 nwidarap-delete-spec =

@@ -20,7 +20,7 @@ same-length c = search needs
 returns : tie.Need-returns
 returns c =
     let a = c .before .before .before .before .before .before .before .before .before .before .args in
-    held-begin Extract (a .card .now) (a .answer .now) (a .list .now) _ _ _ _ _ _ (c .before .before .before .before .before .before .before .card-of .ensures) (c .before .before .before .before .before .begin-extract .ensures) (c .settle .ensures)
+    held-begin Extract (a .card .now) (a .list .now) _ _ _ _ _ _ (c .before .before .before .before .before .before .before .card-of .ensures) (c .before .before .before .before .before .begin-extract .ensures) (c .settle .ensures)
 
 pub nwidarap-extract-spec : {M : Type 1} → statement M
 nwidarap-extract-spec =

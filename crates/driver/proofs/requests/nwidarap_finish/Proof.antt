@@ -19,7 +19,7 @@ same-length c = search needs
 returns : tie.Need-returns
 returns c =
     let a = c .before .before .before .before .before .before .before .before .before .before .args in
-    held-finish (a .card .now) (a .answer .now) (a .words .now) _ _ _ _ _ _ (c .before .before .before .before .before .before .before .card-of .ensures) (c .before .before .before .before .before .finish .ensures) (c .settle .ensures)
+    held-finish (a .card .now) (a .words .now) _ _ _ _ _ _ (c .before .before .before .before .before .before .before .card-of .ensures) (c .before .before .before .before .before .finish .ensures) (c .settle .ensures)
 
 pub nwidarap-finish-spec : {M : Type 1} → statement M
 nwidarap-finish-spec =

@@ -11,7 +11,7 @@ settle-requires : tie.Need-settle-requires
 settle-requires c κs = search needs
 
 returns : tie.Need-returns
-returns c = called _ _ _ _ _ _ _ _ _ (c .before .before .before .start .ensures) (c .settle .ensures)
+returns c = called _ _ _ _ _ _ _ _ (c .before .before .before .start .ensures) (c .settle .ensures)
 
 pub nwidarap-start-spec : {M : Type 1} → statement M
 nwidarap-start-spec = tie.close (tie.spec start-requires settle-requires returns)

@@ -18,7 +18,7 @@ settle-requires c κs = search needs
 returns : tie.Need-returns
 returns c =
     let a = c .before .before .before .before .before .before .args in
-    held-called (a .card .now) withdrawTable none-withdraws withdrawn (a .answer .now) _ _ _ _ _ (c .before .before .before .before .card-of .ensures) (c .before .before .before .withdraw .ensures) (c .settle .ensures)
+    held-called (a .card .now) withdrawTable none-withdraws withdrawn _ _ _ _ (c .before .before .before .before .card-of .ensures) (c .before .before .before .withdraw .ensures) _ (c .settle .ensures)
 
 pub nwidarap-withdraw-spec : {M : Type 1} → statement M
 nwidarap-withdraw-spec =

@@ -15,7 +15,7 @@ same-length c = search needs
 
 returns : tie.Need-returns
 returns c =
-    racked _ _ _ _ _ _ _ _ (c .before .before .before .before .fetch .ensures) (c .tell .ensures)
+    racked _ _ _ _ _ _ _ (c .before .before .before .before .fetch .ensures) (c .tell .ensures)
 
 pub nwidarap-fetch-spec : {M : Type 1} → statement M
 nwidarap-fetch-spec = tie.close (tie.spec fetch-requires tell-requires same-length returns)

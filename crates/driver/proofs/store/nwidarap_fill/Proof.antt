@@ -15,7 +15,7 @@ same-length c = search needs
 
 returns : tie.Need-returns
 returns c =
-    racked _ _ _ _ _ _ _ _ (c .before .before .before .before .fill .ensures) (c .tell .ensures)
+    racked _ _ _ _ _ _ _ (c .before .before .before .before .fill .ensures) (c .tell .ensures)
 
 pub nwidarap-fill-spec : {M : Type 1} → statement M
 nwidarap-fill-spec = tie.close (tie.spec fill-requires tell-requires same-length returns)

@@ -15,7 +15,7 @@ same-length c = search needs
 
 returns : tie.Need-returns
 returns c =
-    racked _ _ _ _ _ _ _ _ (c .before .before .before .before .store .ensures) (c .tell .ensures)
+    racked _ _ _ _ _ _ _ (c .before .before .before .before .store .ensures) (c .tell .ensures)
 
 pub nwidarap-store-spec : {M : Type 1} → statement M
 nwidarap-store-spec = tie.close (tie.spec store-requires tell-requires same-length returns)

@@ -1,15 +1,9 @@
 use borrow.Author.Needs.{needs}
-use native.Mathlib.Omega.{arith}
 use Rattle.record.specs.Words.{records}
 use Rattle.clearing.specs.Removal.{named}
 use Rattle.work.proofs.WorkLaws.{path-removed}
 use Rattle.work.proofs.removal.remove_path.Statement.{statement}
 use Rattle.work.proofs.removal.remove_path.Tie as tie
-use Rattle.work.proofs.removal.remove_path.Reads as reads
-use Rattle.work.proofs.removal.remove_path.Lts as lts
-use Rattle.clearing.proofs.clear.Reads as clear-reads
-use Rattle.gather.proofs.save_root.Reads as save-root-reads
-use Rattle.work.proofs.work_path.Reads as work-path-reads
 
 clear-requires : tie.Need-clear-requires
 clear-requires c κs = search needs

@@ -1,0 +1,2 @@
+-- The laws of a request's bucket list that crates above cite.
+pub mod ListingLaws

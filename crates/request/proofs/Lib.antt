@@ -1,0 +1,2 @@
+-- The laws of requests that crates above cite.
+pub mod RequestLaws
