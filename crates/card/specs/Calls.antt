@@ -33,7 +33,7 @@ withWaiting k w = record { sizes = k .sizes; t = k .t; c = k .c; root = k .root;
 abbrev pub freshCard : Sizes → Card
 freshCard s = record { sizes = s; t = 0; c = 0; root = replicate 64 dummy; least = dummy; waiting = Nothing }
 
--- "no card, or a card with 0 in every field": what a refused start hands back; its height is 0, so it is a BadCard
+-- what a refused start hands back, for "every other field 0": 0 in every field; its height is 0, so it is a BadCard
 abbrev pub zeroRecord : Record
 zeroRecord = record4 0 0 0 0
 

@@ -14,7 +14,7 @@ use Rattle.lists.specs.BucketList.{BucketList}
 abbrev pub partOf : ℕ → ℕ → List ℕ → Bucket → List ℕ
 partOf z n tree b = take n (drop (bucketStart z b) tree)
 
--- "bucket n has 4(Z+1) words from word 4(Z+1)(n-2): first its least record, then its slots"
+-- "bucket n .. has 4(Z+1) words from word 4(Z+1)(n-2): first its least record, then its slots"
 abbrev pub bucketPart : ℕ → List ℕ → Bucket → List ℕ
 bucketPart z = partOf z (bucketWords z)
 

@@ -14,7 +14,7 @@ pub record BucketList : Type 0 where
   pub whole : List Bucket
   pub least : List Bucket
 
--- "the list is empty"
+-- FindMin: "with an empty list"
 abbrev pub noBuckets : BucketList
 noBuckets = record { whole = []; least = [] }
 

@@ -16,14 +16,14 @@ pub record State : Type 0 where
   pub tree : List ℕ
 
 -- a line: what is printed for it, and the state behind it
-abbrev pub leftOver : State → List ℕ → LineLeft
-leftOver s line = stepOf (s .desk) (lineSays line) (s .tree)
+abbrev pub leftByLine : State → List ℕ → LineLeft
+leftByLine s line = stepOf (s .desk) (lineSays line) (s .tree)
 
 abbrev pub replyTo : State → List ℕ → List ℕ
-replyTo s line = bytesOf (leftOver s line .turn .reply)
+replyTo s line = bytesOf (leftByLine s line .turn .reply)
 
 abbrev pub behindLine : State → List ℕ → State
-behindLine s line = record { desk = leftOver s line .turn .desk; tree = leftOver s line .tree }
+behindLine s line = record { desk = leftByLine s line .turn .desk; tree = leftByLine s line .tree }
 
 -- lines, one after another
 unfoldable pub repliesTo : State → List (List ℕ) → List ℕ
