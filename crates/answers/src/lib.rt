@@ -1,5 +1,5 @@
 // What a call answers: document 01, "A request, step by step", and "Any refusal returns its number with every other field 0".
-// Each case has the paper's number and six values; one that does not apply is 0. Stands on `record` and `request`.
+// Each case has the paper's number and six values; one that does not apply is 0. Stands on `record`, `refusal`, `request`.
 ghost use mathlib.Core.Path.{_≡_};
 ghost use Rattle.answers.specs.Answers.{numberOf, valuesOf, answerTo};
 use record::Leaf;

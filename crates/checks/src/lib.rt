@@ -18,7 +18,7 @@ use request::Waiting;
 use request::is_waiting;
 use request::why_request;
 
-// BadCard: the request that waits is one that begin would not refuse.
+// BadCard: the parts are bad, or a request waits that begin would refuse.
 fn is_bad(root: &[u64], sizes: Sizes, t: u64, c: u64, least: Record, waiting: Waiting) -> bool
     requires { ⌜ length (now root) ≡ 256 ⌝ }
     ensures { λ b. ⌜ b ≡ badWith sizes t c (records (now (root .entry))) least waiting ⌝ }

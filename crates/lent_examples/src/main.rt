@@ -10,7 +10,7 @@ use card::Done;
 use libc::STDOUT_FILENO;
 use steps::Reply;
 
-// The longest reply has 106 bytes.
+// The longest reply has 107 bytes.
 const REPLY_ROOM: usize = 128;
 
 fn say(answer: Answer) {

@@ -1,8 +1,9 @@
 // One request played on both sides: document 01, "The desk program reads lines and plays both sides". Begin with a list of its
 // own, fetch into words of its own, finish, store.
 //
-// Whatever card and tree are given, a request is played to its end or refused. The first of the four steps that refuses decides, and
-// then card and tree are as before: the card that was begun is dropped, so no request is left waiting. Stands on `card` and `rack`.
+// Whatever card and tree are given, a request is played to its end or refused. The first step that refuses decides, and
+// then card and tree are as before: the card that was begun is dropped, so no request is left waiting. Stands on `lists`, `request`,
+// `answers`, `card`, `copies` and `rack`.
 ghost use Rattle.request.specs.declared.Waiting.{Waiting};
 ghost use Rattle.rounds.specs.Round.{Plays};
 

@@ -1,4 +1,4 @@
--- The functions of `record` and `path` leave one outcome. Assumes nothing.
+-- The functions of `record`, `path` and `lists` leave one outcome. Assumes nothing.
 use mathlib.Core.Path.{refl}
 use Rattle.unique.specs.One.{Determines}
 use Rattle.unique.proofs.OneLaws.{one-answer}
