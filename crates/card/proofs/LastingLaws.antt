@@ -38,13 +38,13 @@ use Rattle.card.proofs.FinishLaws.{entry-numbered, some-waits, request-
 
 -- the fourth clause of Damaged: what would come out is no BadCard
 module _ (s : Sizes) (t c : ℕ) (root : List Record) (least : Record) (ws : List ℕ) where
-  removal-fits : (q : Leaf) (f : Record → Bool) → removalDamaged s t c root least ws q f ≡ false → badLeft s t c root least ws (removal s c root ws q f) ≡ false
+  removal-fits : (q : Leaf) (f : Record → Bool) → removalDamaged s t c root least ws q f ≡ false → badLeft s t (removal s c root ws q f) ≡ false
   unfolding removalDamaged
   removal-fits q f e =
-      neither (pathDamaged (s .h) (s .r) (stampOf t) least (pathFetched (s .h) (s .z) q ws) (pathWay s c root ws)) _ .0 e .1
+      neither (pathDamaged (s .h) (s .r) (stampOf t) least (pathFetched (s .h) (s .z) q ws) (pathWay s root ws)) _ .0 e .1
 
   insertion-fits : (first second : Leaf) (new : Record) → insertionDamaged s t c root least ws first second new ≡ false
-      → badLeft s t c root least ws (insertion s c root ws first second new) ≡ false
+      → badLeft s t (insertion s c root ws first second new) ≡ false
   unfolding insertionDamaged
   insertion-fits first second new e =
       neither (pairDamaged (s .h) (s .r) (stampOf t) least (firstFetched (s .h) (s .z) first ws) (secondFetched (s .h) (s .z) second ws) (wayShown (2 * s .h) (s .z) (s .r) root ws 0)) _ .0 e .1
