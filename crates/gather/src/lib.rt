@@ -12,6 +12,7 @@ ghost use Rattle.gather.specs.Shown.{slotsShown};
 use path::Sizes;
 use record::RECORD_WORDS;
 use record::Record;
+use record::copy_words;
 
 // For crates above: n records of `src` from place `from` on, to place `at` of `w` and on. Words are copied, not records
 // read: what a record means is nothing to a copy.
@@ -22,9 +23,7 @@ pub fn copy(w: &mut [u64], at: usize, src: &[u64], from: usize, n: usize)
     let to = RECORD_WORDS * at;
     let first = RECORD_WORDS * from;
     let count = RECORD_WORDS * n;
-    for k in 0..count {
-        w[to + k] = src[first + k];
-    }
+    copy_words(w, to, src, first, count);
 }
 
 // For crates above: the root's r slots at the head of the scratch.
