@@ -18,11 +18,11 @@ use Rattle.judge.specs.BadParts.{badParts}
 use Rattle.pair.specs.PairWork.{firstSiblings, secondSiblings, PairWorked}
 use Rattle.pair.proofs.BesideLaws.{pair-same}
 use Rattle.settle.specs.declared.Settled.{Settled}
-use Rattle.settle.specs.Left.{Left, pathWay, lowerLeft, upperLeft, insertion, insertionDamaged}
+use Rattle.settle.specs.Left.{Left, pathWay, lowerLeft, upperLeft, insertion, pairBad, insertionDamaged}
 use Rattle.settle.specs.Settled.{unsettled, judged, Prepares}
 use Rattle.settle.proofs.PreparedLaws.{not-prepared, is-prepared}
 use Rattle.look.specs.declared.Looked.{Looked}
-use Rattle.look.specs.Look.{PairLooks, pairBad}
+use Rattle.look.specs.Look.{PairLooks}
 use Rattle.look.proofs.PairLaws.{below-at}
 use Rattle.prepare.specs.Prepared.{PairPrepared}
 
@@ -35,7 +35,7 @@ module _ (s : Sizes) (t c : ℕ) (root : List Record) (least : Record) (ws : Lis
   damaged = insertionDamaged s t c root least ws first second new
 
   told : damaged ≡ (seen .damaged || badParts s (t + 1) (left .c) (left .root) (left .least))
-  unfolding insertionDamaged pairBad
+  unfolding insertionDamaged
   told =
       let u : t + 1 ≡ suc t = omega arith in
       rw (looked .verdict, u)
@@ -83,7 +83,7 @@ module _ (s : Sizes) (t c : ℕ) (root : List Record) (least : Record) (ws : Lis
 -- the two paths' words together, for the stores
 module _ (s : Sizes) (t c : ℕ) (root : List Record) (least : Record) (ws : List ℕ) (first second : Leaf) (new : Record) where
   fetched-good : insertionDamaged s t c root least ws first second new ≡ false → pairBad s t root least ws first second ≡ false
-  unfolding insertionDamaged pairBad
+  unfolding insertionDamaged
   fetched-good g = neither _ _ .0 g .0
 
   pub pair-prepares : (one₀ two₀ one two : List ℕ) (out : Settled) → PairPrepared s t c root least ws first second new one₀ two₀ one two out

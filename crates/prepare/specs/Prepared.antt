@@ -9,9 +9,8 @@ use Rattle.path.specs.declared.sizes.Sizes.{Sizes}
 use Rattle.path.specs.Layout.{recordWords}
 use Rattle.mend.specs.Mended.{pathWords}
 use Rattle.settle.specs.declared.Settled.{Settled}
-use Rattle.settle.specs.Left.{lowerLeft, upperLeft, insertion, insertionDamaged}
+use Rattle.settle.specs.Left.{lowerLeft, upperLeft, insertion, pairBad, insertionDamaged}
 use Rattle.settle.specs.Settled.{settled, unsettled}
-use Rattle.look.specs.Look.{pairBad}
 
 -- the words moved so far are the siblings'. Where what was fetched is Damaged the buckets' scratches stay as they were
 pub record PairPrepared

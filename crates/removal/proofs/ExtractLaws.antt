@@ -14,12 +14,10 @@ use Rattle.path.specs.declared.sizes.Sizes.{Sizes}
 use Rattle.path.specs.Sizes.{leavesOf}
 use Rattle.way.specs.Evict.{seek}
 use Rattle.clearing.specs.Removal.{named, found, removed}
-use Rattle.sound.specs.Fetched.{pathFetched}
-use Rattle.damage.specs.Damaged.{pathDamaged}
 use Rattle.damage.proofs.Found.{shown-extract-by-name, shown-extract-found}
 use Rattle.judge.specs.BadParts.{stampOf}
 use Rattle.settle.specs.declared.Settled.{Settled}
-use Rattle.settle.specs.Left.{Left, pathWay, removal, removalDamaged}
+use Rattle.settle.specs.Left.{Left, pathWay, removal, pathBad, removalDamaged}
 use Rattle.settle.specs.Room.{RemovalRoom}
 use Rattle.settle.specs.Settled.{Settles}
 use Rattle.settle.proofs.PreparedLaws.{settles-same}
@@ -38,7 +36,7 @@ module _ (s : Sizes) (t c : ℕ) (root : List Record) (m : Record) (ws : List �
   byName = named (m .label) (m .stamp)
 
   abbrev fetchedBad : Bool
-  fetchedBad = pathDamaged (s .h) (s .r) (stampOf t) m (pathFetched (s .h) (s .z) (m .label) ws) (pathWay s root ws)
+  fetchedBad = pathBad s t root m ws (m .label)
 
   found-same : fetchedBad ≡ false → seek byName (length (pathWay s root ws)) (pathWay s root ws) ≡ seek (same m) (length (pathWay s root ws)) (pathWay s root ws)
   found-same good =

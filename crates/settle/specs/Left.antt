@@ -89,15 +89,21 @@ module _ (s : Sizes) (c : ℕ) (root : List Record) (ws : List ℕ) where
 abbrev pub badLeft : Sizes → ℕ → Left → Bool
 badLeft s t l = badParts s (suc t) (l .c) (l .root) (l .least)
 
--- Damaged, all four clauses: the first three of what was fetched, then that one
+-- Damaged, its first three clauses: those of what was fetched
+module _ (s : Sizes) (t : ℕ) (root : List Record) (least : Record) (ws : List ℕ) where
+  abbrev pub pathBad : Leaf → Bool
+  pathBad q = pathDamaged (s .h) (s .r) (stampOf t) least (pathFetched (s .h) (s .z) q ws) (pathWay s root ws)
+
+  abbrev pub pairBad : Leaf → Leaf → Bool
+  pairBad first second =
+      pairDamaged (s .h) (s .r) (stampOf t) least (firstFetched (s .h) (s .z) first ws) (secondFetched (s .h) (s .z) second ws)
+      (wayShown (2 * s .h) (s .z) (s .r) root ws 0)
+
+-- Damaged, all four clauses
 module _ (s : Sizes) (t c : ℕ) (root : List Record) (least : Record) (ws : List ℕ) where
   unfoldable pub removalDamaged : Leaf → (Record → Bool) → Bool
-  removalDamaged q f =
-      pathDamaged (s .h) (s .r) (stampOf t) least (pathFetched (s .h) (s .z) q ws) (pathWay s root ws)
-      || badLeft s t (removal s c root ws q f)
+  removalDamaged q f = pathBad s t root least ws q || badLeft s t (removal s c root ws q f)
 
   unfoldable pub insertionDamaged : Leaf → Leaf → Record → Bool
   insertionDamaged first second new =
-      pairDamaged (s .h) (s .r) (stampOf t) least (firstFetched (s .h) (s .z) first ws) (secondFetched (s .h) (s .z) second ws)
-      (wayShown (2 * s .h) (s .z) (s .r) root ws 0)
-      || badLeft s t (insertion s c root ws first second new)
+      pairBad s t root least ws first second || badLeft s t (insertion s c root ws first second new)
