@@ -9,6 +9,7 @@ ghost use lib.ListN.{length, take, drop};
 ghost use Rattle.record.specs.Words.{records};
 ghost use Rattle.gather.specs.Laid.{laidOver, SiblingsLoaded};
 ghost use Rattle.gather.specs.Shown.{slotsShown};
+use path::ROOT_PLACES;
 use path::Sizes;
 use record::RECORD_WORDS;
 use record::Record;
@@ -27,7 +28,7 @@ pub fn copy(w: &mut [u64], at: usize, src: &[u64], from: usize, n: usize)
 }
 
 // For crates above: the root's r slots at the head of the scratch.
-pub fn load_root(w: &mut [u64], root: [Record; 64], r: usize)
+pub fn load_root(w: &mut [u64], root: [Record; ROOT_PLACES], r: usize)
     requires { ⌜ (r ≤ 64) × (4 * r ≤ length (now w)) ⌝ }
     ensures { λ _. ⌜ now (w .exit) ≡ laidOver (now (w .entry)) 0 (take r root) ⌝ }
 {
@@ -38,7 +39,7 @@ pub fn load_root(w: &mut [u64], root: [Record; 64], r: usize)
 }
 
 // For crates above: the root's slots from the head of the scratch back among the card's 64; those past r stay.
-pub fn save_root(w: &[u64], root: [Record; 64], r: usize) -> [Record; 64]
+pub fn save_root(w: &[u64], root: [Record; ROOT_PLACES], r: usize) -> [Record; ROOT_PLACES]
     requires { ⌜ (r ≤ 64) × (4 * r ≤ length (now w)) ⌝ }
     ensures { λ out. ⌜ out ≡ take r (records (now (w .entry))) ++ drop r root ⌝ }
 {
