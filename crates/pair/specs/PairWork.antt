@@ -63,7 +63,6 @@ pub record PairWorked
 
 -- what is asked: the room of one path for each, and the fetched words of both
 pub record PairRoom (s : Sizes) (first second : Leaf) (path₁ path₂ w beside words : List ℕ) : Type 0 where
-  pub some : 1 ≤ s .h
   pub one : MendRoom s first path₁ w beside
   pub two : MendRoom s second path₂ w beside
   pub fetched : 4 * (2 * s .h * (s .z + 1) + 2 * (s .h - 1)) ≤ length words
