@@ -7,21 +7,18 @@ use mathlib.Core.Path.{_≡_, refl, sym, subst}
 use mathlib.Mathlib.Data.Bool.Basic.{or-eq-false-eq-eq-false-and-eq-false as neither}
 use native.Mathlib.Omega.{arith}
 use lib.ListN.{length}
-use Rattle.gather.specs.Shown.{wayShown}
-use Rattle.sound.specs.Fetched.{firstFetched, secondFetched, pathFetched}
-use Rattle.damage.specs.Damaged.{pairDamaged, pathDamaged}
 use Rattle.clearing.specs.Removal.{named}
 use Rattle.record.specs.declared.Leaf.{Leaf}
 use Rattle.record.specs.declared.Record.{Record}
 use Rattle.record.specs.Standing.{same}
 use Rattle.path.specs.declared.sizes.Sizes.{Sizes}
-use Rattle.judge.specs.BadParts.{stampOf, badParts}
+use Rattle.judge.specs.BadParts.{badParts}
 use Rattle.refusal.specs.Refusal.{firstGiven}
 use Rattle.refusal.proofs.RefusalLaws.{none-given, append-none}
 use Rattle.request.specs.declared.Waiting.{Waiting}
 use Rattle.request.specs.declared.Waiting.the-variants.{Nothing, Insert, Extract, Delete}
 use Rattle.request.specs.Tables.{requestRows}
-use Rattle.settle.specs.Left.{pathWay, removal, insertion, badLeft, removalDamaged, insertionDamaged}
+use Rattle.settle.specs.Left.{removal, insertion, badLeft, pathBad, pairBad, removalDamaged, insertionDamaged}
 use Rattle.removal.proofs.ExtractLaws.{extract-found}
 use Rattle.finishes.specs.Finishes.{Finishable}
 use Rattle.card.specs.declared.Card.{Card}
@@ -38,16 +35,16 @@ use Rattle.card.proofs.FinishLaws.{entry-numbered, some-waits, request-
 
 -- the fourth clause of Damaged: what would come out is no BadCard
 module _ (s : Sizes) (t c : ℕ) (root : List Record) (least : Record) (ws : List ℕ) where
-  removal-fits : (q : Leaf) (f : Record → Bool) → removalDamaged s t c root least ws q f ≡ false → badLeft s t c root least ws (removal s c root ws q f) ≡ false
+  removal-fits : (q : Leaf) (f : Record → Bool) → removalDamaged s t c root least ws q f ≡ false → badLeft s t (removal s c root ws q f) ≡ false
   unfolding removalDamaged
   removal-fits q f e =
-      neither (pathDamaged (s .h) (s .r) (stampOf t) least (pathFetched (s .h) (s .z) q ws) (pathWay s c root ws)) _ .0 e .1
+      neither (pathBad s t root least ws q) _ .0 e .1
 
   insertion-fits : (first second : Leaf) (new : Record) → insertionDamaged s t c root least ws first second new ≡ false
-      → badLeft s t c root least ws (insertion s c root ws first second new) ≡ false
+      → badLeft s t (insertion s c root ws first second new) ≡ false
   unfolding insertionDamaged
   insertion-fits first second new e =
-      neither (pairDamaged (s .h) (s .r) (stampOf t) least (firstFetched (s .h) (s .z) first ws) (secondFetched (s .h) (s .z) second ws) (wayShown (2 * s .h) (s .z) (s .r) root ws 0)) _ .0 e .1
+      neither (pairBad s t root least ws first second) _ .0 e .1
 
 module _ (k : Card) (ws : List ℕ) (none : firstGiven (finishTable k ws) ≡ 0) where
   entry : firstGiven (entryTable k (length ws)) ≡ 0

@@ -7,7 +7,7 @@ ghost use lib.ListN.{length};
 ghost use Rattle.record.specs.Words.{records};
 ghost use Rattle.refusal.specs.Refusal.{firstGiven};
 ghost use Rattle.checks.specs.Checks.{badWith, busyRows, idleRows, beginChecks, entryChecks};
-use judge::ROOT_PLACES;
+use path::ROOT_PLACES;
 use path::Sizes;
 use record::Record;
 use refusal::BAD_CARD;

@@ -6,8 +6,7 @@
 ghost use mathlib.Core.Path.{_≡_};
 ghost use mathlib.Core.List.{map};
 ghost use Prim.Native.Nat.{_+_, _*_, _≤_, _/_, _%_};
-ghost use lib.ListN.{length, take, drop, replicate};
-ghost use lib.Seq.{paste};
+ghost use lib.ListN.{length, take, replicate};
 ghost use Rattle.record.specs.Standing.{dummy};
 ghost use Rattle.record.specs.Words.{wordsOf};
 ghost use Rattle.path.specs.Path.{bucket};
@@ -15,6 +14,7 @@ ghost use Rattle.path.specs.Layout.{bucketWords};
 ghost use Rattle.copies.specs.Copy.{listed, partWords, fetched, stored, Covered};
 use record::RECORD_WORDS;
 use record::Record;
+use record::copy_words;
 
 mod layout;
 
@@ -33,18 +33,6 @@ pub fn fill_dummies(tree: &mut [u64])
     while place < places {
         dummy.write(tree, place);
         place += 1;
-    }
-}
-
-// n words of `from`, from `start` on, to word `at` of `to` and on.
-fn copy(to: &mut [u64], at: usize, from: &[u64], start: usize, n: usize)
-    requires { ⌜ (at + n ≤ length (now to)) × (start + n ≤ length (now from)) ⌝ }
-    ensures { λ _. ⌜ now (to .exit) ≡ paste (now (to .entry)) at (drop start (now (from .entry))) n ⌝ }
-{
-    let mut i = 0;
-    while i < n {
-        to[at + i] = from[start + i];
-        i += 1;
     }
 }
 
@@ -78,7 +66,7 @@ pub fn fetch_listed(
     while i < covered {
         let part = part_words(z, whole, i);
         let from = layout::bucket_start(z, list[i]);
-        copy(words, at, tree, from, part);
+        copy_words(words, at, tree, from, part);
         at += part;
         i += 1;
     }
@@ -95,7 +83,7 @@ pub fn store_listed(z: u64, tree: &mut [u64], list: &[u64], whole: usize, words:
     let mut i = 0;
     while i < whole {
         let to = layout::bucket_start(z, list[i]);
-        copy(tree, to, words, at, bucket);
+        copy_words(tree, to, words, at, bucket);
         at += bucket;
         i += 1;
     }

@@ -26,8 +26,8 @@ denied false twice true′ e = absurd (true≢false e)
 
 -- what was fetched for one path is sound, and true below the root
 pub record PathGood (h : ℕ) (next : Stamp) (from : ℕ) (p : Fetched) : Type 0 where
-  pub buckets : pathSound h (p .leaf) (p .shown) (p .beside) next ≡ true
-  pub siblings : siblingsSound h (p .leaf) (p .shown) (p .beside) next from ≡ true
+  pub buckets : pathSound h (p .leaf) (p .shown) next ≡ true
+  pub siblings : siblingsSound h (p .leaf) (p .beside) next from ≡ true
   pub leasts : leastsTrue h (p .leaf) (p .shown) (p .beside) ≡ true
 
 module _ (h : ℕ) (next : Stamp) (from : ℕ) (p : Fetched) where

@@ -71,7 +71,7 @@ module _ (h : ℕ) (next : Stamp) where
 
     fetched-stands : (d : ℕ) → 1 ≤ d → d ≤ h → {x : Record} → List·Memᴰ x (shown d .least ∷ shown d .slots) → Stands x
     fetched-stands d some most i =
-        ⊎-elim inl (λ s. inr (s .0)) (sound-cases h next d (pathBucket h leaf d) _ (bucket-sound-at h leaf shown beside d some most next (u .path .buckets) i))
+        ⊎-elim inl (λ s. inr (s .0)) (sound-cases h next d (pathBucket h leaf d) _ (bucket-sound-at h leaf d some most shown next (u .path .buckets) i))
 
     -- the least records on the path, from the root down
     least-dummy : (d : ℕ) → suc d ≤ h → shown (suc d) .least ≡ dummy

@@ -28,12 +28,12 @@ pub record Alike (h from : ℕ) (p q : Fetched) : Type 0 where
   pub beside : (d : ℕ) → from ≤ d → d ≤ h → p .beside d ≡ q .beside d
 
 module _ (h from : ℕ) (p q : Fetched) (a : Alike h from p q) where
-  alike-buckets : (next : Stamp) → pathSound h (p .leaf) (p .shown) (p .beside) next ≡ pathSound h (q .leaf) (q .shown) (q .beside) next
+  alike-buckets : (next : Stamp) → pathSound h (p .leaf) (p .shown) next ≡ pathSound h (q .leaf) (q .shown) next
   unfolding pathSound
   alike-buckets next = every-same _ _ 1 h (λ d l m. rw (a .leaf, a .shown d l (omega arith)))
 
   alike-siblings : (next : Stamp)
-      → siblingsSound h (p .leaf) (p .shown) (p .beside) next from ≡ siblingsSound h (q .leaf) (q .shown) (q .beside) next from
+      → siblingsSound h (p .leaf) (p .beside) next from ≡ siblingsSound h (q .leaf) (q .beside) next from
   unfolding siblingsSound
   alike-siblings next = every-same _ _ from (suc h - from) (λ d l m. rw (a .leaf, a .beside d l (omega arith)))
 

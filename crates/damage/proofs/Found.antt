@@ -71,7 +71,7 @@ module _ (h r : ℕ) (next : Stamp) (m : Record) (proper : isProper (leavesOf h)
     -- a sibling is off the path of m's label, so its least record is another
     not-beside : (d : ℕ) → 1 ≤ d → d ≤ h → m ≡ beside d → ⊥
     not-beside d some most e =
-        let s = sibling-sound-at h (m .label) shown beside d some most next 1 some (u .path .siblings) in
+        let s = sibling-sound-at h (m .label) d some most beside next 1 some (u .path .siblings) in
         ⊎-elim not-dummy
         (λ s. sibling-off h (m .label) (proper-true _ _ _ proper .label) d some most d most (ap number (holds-true h (m .label) d _ (s .1))))
         (sound-cases h next d (siblingOf (pathBucket h (m .label) d)) m (rw (← e) at s))

@@ -23,7 +23,7 @@ use Rattle.least.specs.Least.{slotsAt, inOrder, kids}
 use Rattle.clearing.specs.Removal.{named, found, removed}
 use Rattle.gather.specs.Shown.{wholeAt, siblingAt, siblingsShown, slotsShown, wayShown}
 use Rattle.mend.specs.Mended.{pathWords}
-use Rattle.work.specs.PathWork.{pathBuckets, rootAfter, leastAfter}
+use Rattle.work.specs.PathWork.{pathBuckets, leastAfter}
 use Rattle.pair.specs.PairWork.{seated}
 use Rattle.sound.specs.Sound.{sound, pathSound, siblingsSound}
 use Rattle.truth.specs.Leasts.{kidsShown, leastsTrue}
@@ -100,7 +100,7 @@ unfolding every reals bears stampTwice noLater smallerBy smallestBy same isDummy
     wordsOf pairList pathList sum wordsMoved pathBucket holds siblingOf upFrom path between treeIn inRange firstGiven
     strangeSlot usedPast stampShared rootRecords greaterThanSome rootFull oddLeast badParts seek fits movedTo pull
     pulls evictUp evict slotsAt inOrder kids named found removed wholeAt siblingAt siblingsShown slotsShown wayShown
-    pathWords pathBuckets rootAfter leastAfter seated sound pathSound siblingsSound kidsShown leastsTrue pathDamaged
+    pathWords pathBuckets leastAfter seated sound pathSound siblingsSound kidsShown leastsTrue pathDamaged
     pairDamaged removal insertion removalDamaged insertionDamaged anyOutside stored orRefused badCard listOf
     beginTable minTable withdrawTable leftBy damagedBy entryTable finishedBy insertRows extractRows deleteRows
     requestRows waits step outcomes flatMap

@@ -1,4 +1,4 @@
--- What the loops that load a scratch have done so far: words copied, and records laid one behind the other.
+-- What the loops that load a scratch have done so far: records laid one behind the other.
 -- Assumes nothing.
 use Prim.Native.Nat.{ℕ, suc, _+_, _*_, _-_, _≤_, _<_}
 use mathlib.Core.Path.{_≡_, refl, sym, ap, _∙_}
@@ -10,18 +10,12 @@ use lib.ListN.{length, getD, set, take, drop}
 use lib.Seq.{length-take-le, take-suc, drop-cons, set-at, append-snoc}
 use Rattle.record.specs.declared.Record.{Record}
 use Rattle.record.specs.Words.{records, written}
-use Rattle.record.proofs.Pasting.{Pasting, pasting-ends}
 use Rattle.path.specs.Layout.{recordWords}
 use Rattle.way.proofs.WayLaws.{part-length}
 use Rattle.gather.specs.Laid.{laidOver, SiblingsLoaded}
 use Rattle.gather.specs.Shown.{slotsShown, siblingsShown}
-use Rattle.gather.proofs.LaidLaws.{laid-none, laid-length, laid-more, written-laid, paste-laid}
+use Rattle.gather.proofs.LaidLaws.{laid-none, laid-length, laid-more, written-laid}
 use Rattle.gather.proofs.ShownLaws.{slots-none, slots-more, slots-length, siblings-none, siblings-more, siblings-length}
-
--- Words copied are records laid.
-pub pasting-laid : (old src now : List ℕ) (at from n k : ℕ) → Pasting old src (4 * at) (4 * from) (4 * n) now k
-    → 4 * n ≤ k → 4 * (from + n) ≤ length src → now ≡ laidOver old at (take n (drop from (records src)))
-pasting-laid old src now at from n k p l given = pasting-ends _ _ _ _ _ _ _ p l ∙ paste-laid old src at from n given
 
 -- Records are laid from a place on, so far `rs`.
 pub record Laying (old : List ℕ) (at : ℕ) (rs : List Record) (now : List ℕ) : Type 0 where

@@ -9,9 +9,11 @@ ghost use lib.ListN.{length, take, drop};
 ghost use Rattle.record.specs.Words.{records};
 ghost use Rattle.gather.specs.Laid.{laidOver, SiblingsLoaded};
 ghost use Rattle.gather.specs.Shown.{slotsShown};
+use path::ROOT_PLACES;
 use path::Sizes;
 use record::RECORD_WORDS;
 use record::Record;
+use record::copy_words;
 
 // For crates above: n records of `src` from place `from` on, to place `at` of `w` and on. Words are copied, not records
 // read: what a record means is nothing to a copy.
@@ -22,13 +24,11 @@ pub fn copy(w: &mut [u64], at: usize, src: &[u64], from: usize, n: usize)
     let to = RECORD_WORDS * at;
     let first = RECORD_WORDS * from;
     let count = RECORD_WORDS * n;
-    for k in 0..count {
-        w[to + k] = src[first + k];
-    }
+    copy_words(w, to, src, first, count);
 }
 
 // For crates above: the root's r slots at the head of the scratch.
-pub fn load_root(w: &mut [u64], root: [Record; 64], r: usize)
+pub fn load_root(w: &mut [u64], root: [Record; ROOT_PLACES], r: usize)
     requires { ⌜ (r ≤ 64) × (4 * r ≤ length (now w)) ⌝ }
     ensures { λ _. ⌜ now (w .exit) ≡ laidOver (now (w .entry)) 0 (take r root) ⌝ }
 {
@@ -39,7 +39,7 @@ pub fn load_root(w: &mut [u64], root: [Record; 64], r: usize)
 }
 
 // For crates above: the root's slots from the head of the scratch back among the card's 64; those past r stay.
-pub fn save_root(w: &[u64], root: [Record; 64], r: usize) -> [Record; 64]
+pub fn save_root(w: &[u64], root: [Record; ROOT_PLACES], r: usize) -> [Record; ROOT_PLACES]
     requires { ⌜ (r ≤ 64) × (4 * r ≤ length (now w)) ⌝ }
     ensures { λ out. ⌜ out ≡ take r (records (now (w .entry))) ++ drop r root ⌝ }
 {

@@ -81,7 +81,7 @@ module _ (s : Sizes) (next : Stamp) (T : Tree) (live : List Record) (g : Good s 
     abbrev beside : ℕ → Record
     beside = besideOf (s .h) q T
 
-    buckets-sound : pathSound (s .h) q shown beside next ≡ true
+    buckets-sound : pathSound (s .h) q shown next ≡ true
     unfolding pathSound
     buckets-sound = each-every _ (upFrom 1 (s .h)) (λ d i. level d (levels-range 1 (s .h) i))
       where
@@ -93,7 +93,7 @@ module _ (s : Sizes) (next : Stamp) (T : Tree) (live : List Record) (g : Good s 
             each-every (sound (s .h) next d (pathBucket (s .h) q d)) (shown d .least ∷ shown d .slots) (λ x m. noted-sound d _ (band .0) (band .1) x
             (⊎-elim (λ e. rw e (least-noted s next T live g _ t)) (λ i. g .housed .stands _ t x i) (List·Memᴰ·cases-cons m)))
 
-    siblings-sound : (from : ℕ) → 1 ≤ from → siblingsSound (s .h) q shown beside next from ≡ true
+    siblings-sound : (from : ℕ) → 1 ≤ from → siblingsSound (s .h) q beside next from ≡ true
     unfolding siblingsSound
     siblings-sound from some = each-every _ (upFrom from (suc (s .h) - from)) (λ d i. level d (levels-range from (suc (s .h) - from) i))
       where

@@ -19,11 +19,12 @@ use Rattle.way.specs.Evict.{seek}
 use Rattle.clearing.specs.Removal.{found, removed}
 use Rattle.gather.specs.Shown.{siblingsShown, slotsShown, wayShown}
 use Rattle.clearing.proofs.RemovalLaws.{removed-length}
-use Rattle.mend.specs.Mended.{pathWords, besideAt}
+use Rattle.mend.specs.Mended.{pathWords}
 use Rattle.judge.specs.BadParts.{stampOf}
-use Rattle.work.specs.PathWork.{rootAfter, leastAfter}
+use Rattle.least.specs.Least.{rootSlots}
+use Rattle.work.specs.PathWork.{pathBuckets, leastAfter}
 use Rattle.work.specs.RemovalWork.{removalBuckets, removalRoot, removalLeast, rooted}
-use Rattle.pair.specs.PairWork.{firstBuckets, secondWay, secondBeside, secondBuckets, firstSiblings, secondSiblings}
+use Rattle.pair.specs.PairWork.{firstAfter, secondAfter, secondBeside, firstSiblings, secondSiblings}
 use Rattle.copies.specs.Copy.{fetched, stored}
 use Rattle.tree.specs.Tree.{Tree, wayOf, treeOf}
 use Rattle.tree.proofs.PathFetch.{path-way}
@@ -70,16 +71,16 @@ module _ (s : Sizes) (t c : ℕ) (root : List Record) (least : Record) (tree wor
     way-is : way ≡ wayOf (s .h) q T
     way-is = path-way (s .h) (s .z) (s .r) q inside root least tree words (H .words)
 
-    wide : length (removalRoot s q f sibs way) ≡ s .r
+    wide : length (removalRoot s q f way) ≡ s .r
     wide =
-        root-after-length s q (besideAt sibs) (removed f way)
+        root-after-length s q (removed f way)
         (removed-length f way ∙ ap length way-is ∙ tree-way-length s q inside root full least tree words (H .words))
 
     -- the parts that hang neither on the count nor on the live events
     module _ (c′ : ℕ) (live′ : List Record) (count : c′ ≡ length live′) (fewer : c′ ≤ c) (order : Ascending live′)
-        (good : Good s (stampOf (suc t)) (treeOf (s .z) (take (s .r) (rooted (s .r) (removalRoot s q f sibs way) root)) (removalLeast s q f sibs way)
+        (good : Good s (stampOf (suc t)) (treeOf (s .z) (take (s .r) (rooted (s .r) (removalRoot s q f way) root)) (removalLeast s q f sibs way)
         (stored (s .z) (pathList (s .h) q .whole) (pathWords (removalBuckets s q f sibs way) ++ more) tree)) live′) where
-      removal-parts : Heap s (suc t) c′ (rooted (s .r) (removalRoot s q f sibs way) root) (removalLeast s q f sibs way)
+      removal-parts : Heap s (suc t) c′ (rooted (s .r) (removalRoot s q f way) root) (removalLeast s q f sibs way)
           (stored (s .z) (pathList (s .h) q .whole) (pathWords (removalBuckets s q f sibs way) ++ more) tree) live′
       removal-parts =
           record {
@@ -89,14 +90,14 @@ module _ (s : Sizes) (t c : ℕ) (root : List Record) (least : Record) (tree wor
             most = omega (arith, H .most);
             begun = omega (arith, H .begun);
             order = order;
-            places = rooted-length (s .r) (removalRoot s q f sibs way) root wide full ∙ H .places;
-            past = rw (rooted-past (s .r) (removalRoot s q f sibs way) root wide) (H .past);
+            places = rooted-length (s .r) (removalRoot s q f way) root wide full ∙ H .places;
+            past = rw (rooted-past (s .r) (removalRoot s q f way) root wide) (H .past);
             words = removal-stored-length s q inside root full least tree words (H .words) f more;
             good = good;
           }
 
     pub removal-heap : found f way ≡ true
-        → Heap s (suc t) (c - 1) (rooted (s .r) (removalRoot s q f sibs way) root) (removalLeast s q f sibs way)
+        → Heap s (suc t) (c - 1) (rooted (s .r) (removalRoot s q f way) root) (removalLeast s q f sibs way)
         (stored (s .z) (pathList (s .h) q .whole) (pathWords (removalBuckets s q f sibs way) ++ more) tree) (without stamp live)
     removal-heap there =
         let n = taken-count s q inside T live (stampOf t) (stampOf (suc t)) (omega arith) (H .good) f stamp picks (rw way-is at there) in
@@ -105,7 +106,7 @@ module _ (s : Sizes) (t c : ℕ) (root : List Record) (least : Record) (tree wor
         (omega arith) more there)
 
     pub absent-heap : found f way ≡ false
-        → Heap s (suc t) c (rooted (s .r) (removalRoot s q f sibs way) root) (removalLeast s q f sibs way)
+        → Heap s (suc t) c (rooted (s .r) (removalRoot s q f way) root) (removalLeast s q f sibs way)
         (stored (s .z) (pathList (s .h) q .whole) (pathWords (removalBuckets s q f sibs way) ++ more) tree) live
     absent-heap gone =
         removal-parts c live (H .count) (omega arith) (H .order)
@@ -130,19 +131,22 @@ module _ (s : Sizes) (t c : ℕ) (root : List Record) (least : Record) (tree wor
     abbrev b₂ : ℕ → Record
     b₂ = secondSiblings s ws₂
 
-    abbrev last : List Record
-    last = secondWay s first second new b₁ b₂ way₁ slots₂
+    abbrev after₁ : List Record
+    after₁ = firstAfter s first new way₁
+
+    abbrev after₂ : List Record
+    after₂ = secondAfter s first second new way₁ slots₂
 
     abbrev beside : ℕ → Record
-    beside = secondBeside s first second new b₁ b₂ way₁ slots₂
+    beside = secondBeside s first b₁ after₁ b₂
 
     pub insertion-heap : seek isDummy (s .r) way₁ < s .r
-        → Heap s (suc t) (suc c) (rooted (s .r) (rootAfter s second beside last) root) (leastAfter s second beside last)
+        → Heap s (suc t) (suc c) (rooted (s .r) (rootSlots (s .r) after₂) root) (leastAfter s second beside after₂)
         (stored (s .z) (pairList (s .h) first second .whole)
-        (pathWords (firstBuckets s first second new b₁ b₂ way₁ slots₂ ++ secondBuckets s first second new b₁ b₂ way₁ slots₂) ++ more) tree)
+        (pathWords (pathBuckets s first b₁ after₁ ++ pathBuckets s second beside after₂) ++ more) tree)
         (live ++ (new ∷ []))
     insertion-heap room =
-        let wide = root-after-length s second beside last (last-way-length s first second p new root full least tree words (H .words)) in
+        let wide = root-after-length s second _ (last-way-length s first second p new root full least tree words (H .words)) in
         record {
           sizes = H .sizes;
           spent = left;
@@ -150,8 +154,8 @@ module _ (s : Sizes) (t c : ℕ) (root : List Record) (least : Record) (tree wor
           most = few;
           begun = omega (arith, H .begun);
           order = append-ascending new (H .order) (λ x m. omega (arith, live-stamp s (stampOf t) T live (H .good) x m));
-          places = rooted-length (s .r) (rootAfter s second beside last) root wide full ∙ H .places;
-          past = rw (rooted-past (s .r) (rootAfter s second beside last) root wide) (H .past);
+          places = rooted-length (s .r) (rootSlots (s .r) after₂) root wide full ∙ H .places;
+          past = rw (rooted-past (s .r) (rootSlots (s .r) after₂) root wide) (H .past);
           words = insertion-stored-length s first second p new root full least tree words (H .words) more;
           good =
               insertion-good s first second p root full least tree words (H .words) live (stampOf t) (H .good) new (stampOf (suc t))

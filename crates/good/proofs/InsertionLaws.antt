@@ -19,8 +19,9 @@ use Rattle.way.specs.Evict.{seek}
 use Rattle.gather.specs.Shown.{slotsShown, wayShown}
 use Rattle.gather.proofs.ShownLaws.{slots-split}
 use Rattle.mend.specs.Mended.{pathWords}
-use Rattle.work.specs.PathWork.{rootAfter, leastAfter}
-use Rattle.pair.specs.PairWork.{firstBuckets, secondWay, secondBeside, secondBuckets, firstSiblings, secondSiblings}
+use Rattle.least.specs.Least.{rootSlots}
+use Rattle.work.specs.PathWork.{pathBuckets, leastAfter}
+use Rattle.pair.specs.PairWork.{firstAfter, secondAfter, secondBeside, firstSiblings, secondSiblings}
 use Rattle.work.specs.RemovalWork.{rooted}
 use Rattle.sound.specs.Fetched.{firstFetched, secondFetched}
 use Rattle.damage.specs.Damaged.{pairDamaged}
@@ -101,14 +102,20 @@ module _ (s : Sizes) (first second : Leaf) (p : Halves (s .h) first second) (roo
   -- ---- what finish leaves, stored
   module _ (new : Record) (later : Stamp) (since : next .0 ≤ later .0) (stamp : new .stamp .0 ≡ next .0)
       (proper : isProper (leavesOf (s .h)) later new ≡ true) (room : seek isDummy (s .r) way < s .r) (more : List ℕ) where
+    abbrev after₁ : List Record
+    after₁ = firstAfter s first new way
+
+    abbrev after₂ : List Record
+    after₂ = secondAfter s first second new way slots₂
+
+    abbrev beside : ℕ → Record
+    beside = secondBeside s first b₁ after₁ b₂
+
     abbrev after : Tree
     after =
-        treeOf (s .z)
-        (take (s .r) (rooted (s .r) (rootAfter s second (secondBeside s first second new b₁ b₂ way slots₂)
-        (secondWay s first second new b₁ b₂ way slots₂)) root))
-        (leastAfter s second (secondBeside s first second new b₁ b₂ way slots₂) (secondWay s first second new b₁ b₂ way slots₂))
+        treeOf (s .z) (take (s .r) (rooted (s .r) (rootSlots (s .r) after₂) root)) (leastAfter s second beside after₂)
         (stored (s .z) (pairList (s .h) first second .whole)
-        (pathWords (firstBuckets s first second new b₁ b₂ way slots₂ ++ secondBuckets s first second new b₁ b₂ way slots₂) ++ more) tree)
+        (pathWords (pathBuckets s first b₁ after₁ ++ pathBuckets s second beside after₂) ++ more) tree)
 
     pub insertion-good : Good s later after (live ++ (new ∷ []))
     insertion-good =

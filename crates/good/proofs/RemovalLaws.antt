@@ -76,7 +76,7 @@ module _ (s : Sizes) (q : Leaf) (inside : q .0 < leavesOf (s .h)) (root : List R
   module _ (f : Record → Bool) (stamp : Stamp) (picks : Picks f stamp) (later : Stamp) (since : next .0 ≤ later .0) (more : List ℕ) where
     abbrev after : Tree
     after =
-        treeOf (s .z) (take (s .r) (rooted (s .r) (removalRoot s q f sibs way) root)) (removalLeast s q f sibs way)
+        treeOf (s .z) (take (s .r) (rooted (s .r) (removalRoot s q f way) root)) (removalLeast s q f sibs way)
         (stored (s .z) (pathList (s .h) q .whole) (pathWords (removalBuckets s q f sibs way) ++ more) tree)
 
     pub removal-good : found f way ≡ true → Good s later after (without stamp live)

@@ -42,7 +42,7 @@ module _ (s : Sizes) (t c : ℕ) (root : List Record) (least : Record) (tree wor
 
     pub removal-kept : Heap s (suc t) (out .c) (out .root) (out .least) (stored (s .z) (pathList (s .h) q .whole) (wordsLeft out ws) tree) others
     unfolding removal
-    removal-kept = elim (dichotomy (found f (pathWay s c root ws))) [
+    removal-kept = elim (dichotomy (found f (pathWay s root ws))) [
       | inl gone ↦ rw gone (absent-heap s t c root least tree words live H left q inside f stamp picks _ gone)
       | inr there ↦ rw there (removal-heap s t c root least tree words live H left q inside f stamp picks _ there)
     ]

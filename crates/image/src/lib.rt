@@ -10,6 +10,7 @@ ghost use Rattle.image.specs.Image.{cardWords, headOf, imageOf};
 ghost use Rattle.image.specs.Reading.{cardIn, oddKind};
 use card::Card;
 use kinds::KIND_DELETE;
+use path::ROOT_PLACES;
 use path::Sizes;
 use record::Record;
 use request::Waiting;
@@ -25,10 +26,8 @@ const HEAD_WORDS: usize = 12;
 
 const HEAD_PLACES: usize = 3;
 
-// The first word of the root's places, and how many places there are.
+// The first word of the root's places.
 const ROOT_AT: usize = 16;
-
-const ROOT_PLACES: usize = 64;
 
 // Whether the kind is none of the four: `Waiting` has no such case, so no card stands for these words.
 pub fn is_odd(words: &[u64; CARD_WORDS]) -> bool

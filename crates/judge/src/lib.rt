@@ -12,9 +12,6 @@ use record::RECORD_WORDS;
 use record::Record;
 use record::Stamp;
 
-// How many places a card's root has; R of them are slots.
-pub const ROOT_PLACES: usize = 64;
-
 fn is_least_odd(n: u64, next: Stamp, c: u64, least: Record) -> bool
     ensures { λ r. ⌜ r ≡ oddLeast n next c least ⌝ }
 {

@@ -20,7 +20,7 @@ use Rattle.damage.specs.Damaged.{pairDamaged}
 use Rattle.damage.proofs.FetchedLaws.{Alike, pair-alike}
 use Rattle.judge.specs.BadParts.{stampOf}
 use Rattle.shown.specs.PairShown.{belowFirst, PairShown}
-use Rattle.look.specs.Look.{PairLookRoom, PairLooks, pairBad}
+use Rattle.look.specs.Look.{PairLookRoom, PairLooks}
 
 -- the siblings of one of the two paths, level by level
 pub below-at : (s : Sizes) (ws : List ℕ) (skip : ℕ) (sibs : List Record) → sibs ≡ belowFirst s ws skip → (d : ℕ) → 2 ≤ d → d ≤ s .h
@@ -85,7 +85,6 @@ module _ (s : Sizes) (first second : Leaf) (ws w₀ beside₀ : List ℕ) (room 
         → x ≡ pairDamaged (s .h) (s .r) (stampOf t) least (fetchedIn (s .z) first (take k ws) one)
         (fetchedIn (s .z) second (take m (drop n ws)) two) (records all)
         → PairLooks s t root least ws first second w one (record { moved = moved; damaged = x })
-    unfolding pairBad
     pair-looks t least k m x e f v =
         record {
           way = shown .way;

@@ -20,7 +20,7 @@ use Rattle.damage.specs.Damaged.{pathDamaged}
 use Rattle.damage.proofs.FetchedLaws.{Alike, path-alike}
 use Rattle.judge.specs.BadParts.{stampOf}
 use Rattle.shown.specs.PathShown.{PathShown}
-use Rattle.look.specs.Look.{PathLookRoom, PathLooks, pathBad}
+use Rattle.look.specs.Look.{PathLookRoom, PathLooks}
 
 -- the words of the path's buckets, n, are there, and are long enough for the checks
 pub path-given : (s : Sizes) (q : Leaf) (ws w sibs : List ℕ) (n : ℕ) → PathLookRoom s q ws w sibs → n ≡ s .h * bucketWords (s .z)
@@ -52,7 +52,6 @@ module _ (s : Sizes) (q : Leaf) (ws w₀ sibs₀ : List ℕ) (room : PathLookRoo
   pub path-looks : (t : ℕ) (least : Record) (x : Bool)
       → x ≡ pathDamaged (s .h) (s .r) (stampOf t) least (fetchedIn (s .z) q (take k ws) sibs) (records w)
       → PathLooks s t root least ws q w sibs (record { moved = moved; damaged = x })
-  unfolding pathBad
   path-looks t least x v =
       record {
         shown = shown;

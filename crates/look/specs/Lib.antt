@@ -1,2 +1,2 @@
--- What a reader must believe of the look at what was fetched: when it is Damaged, and what it leaves.
+-- What a reader must believe of the look at what was fetched: what it leaves, and what it tells.
 pub mod Look

@@ -1,7 +1,6 @@
--- The look at what a finish fetched: when that is Damaged, what it leaves in the scratches of the work, and what it tells.
+-- The look at what a finish fetched: what it leaves in the scratches of the work, and what it tells.
 -- Assumes nothing.
 use Prim.Native.Nat.{ℕ, _+_, _*_, _-_, _≤_, _<_}
-use mathlib.Core.Bool.{Bool}
 use mathlib.Core.List.{List}
 use mathlib.Core.Path.{_≡_}
 use lib.ListN.{length}
@@ -12,24 +11,11 @@ use Rattle.path.specs.declared.sizes.Sizes.{Sizes}
 use Rattle.path.specs.Sizes.{leavesOf}
 use Rattle.path.specs.Layout.{recordWords}
 use Rattle.gather.specs.Shown.{wayShown}
-use Rattle.sound.specs.Fetched.{pathFetched, firstFetched, secondFetched}
-use Rattle.damage.specs.Damaged.{pathDamaged, pairDamaged}
-use Rattle.judge.specs.BadParts.{stampOf}
 use Rattle.shown.specs.PathShown.{PathShown}
 use Rattle.shown.specs.PairShown.{belowFirst}
+use Rattle.settle.specs.Left.{pathBad, pairBad}
 use Rattle.settle.specs.Room.{Cut}
 use Rattle.look.specs.declared.Looked.{Looked}
-
--- "Damaged", its first three clauses: those of what was fetched
-module _ (s : Sizes) (t : ℕ) (root : List Record) (least : Record) (ws : List ℕ) where
-  unfoldable pub pathBad : Leaf → Bool
-  pathBad q =
-      pathDamaged (s .h) (s .r) (stampOf t) least (pathFetched (s .h) (s .z) q ws) (wayShown (s .h) (s .z) (s .r) root ws 0)
-
-  unfoldable pub pairBad : Leaf → Leaf → Bool
-  pairBad first second =
-      pairDamaged (s .h) (s .r) (stampOf t) least (firstFetched (s .h) (s .z) first ws) (secondFetched (s .h) (s .z) second ws)
-      (wayShown (2 * s .h) (s .z) (s .r) root ws 0)
 
 -- ---- ExtractMin and Delete. What is asked: sizes and leaf in range, words that are not too short, and the scratches of the way
 -- and of its siblings

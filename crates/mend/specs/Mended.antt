@@ -9,6 +9,7 @@ use Rattle.record.specs.declared.Record.{Record}
 use Rattle.record.specs.Order.{smallest}
 use Rattle.record.specs.Standing.{dummy}
 use Rattle.path.specs.declared.sizes.Sizes.{Sizes}
+use Rattle.path.specs.Cut.{Cut}
 use Rattle.path.specs.Layout.{Contents, contentsWords, bucketWords}
 use Rattle.path.specs.Sizes.{leavesOf}
 use Rattle.least.specs.Least.{slotsAt, kids, mended}
@@ -30,9 +31,7 @@ pub record Mended (s : Sizes) (q : Leaf) (way beside : List Record) (path : List
 -- what is asked: sizes in their ranges, a leaf of the tree, and scratches as long as the path, the way and the siblings'
 -- least records
 pub record MendRoom (s : Sizes) (q : Leaf) (path w beside : List ℕ) : Type 0 where
-  pub height : s .h ≤ 16
-  pub width : s .z ≤ 5
-  pub roots : s .r ≤ 64
+  pub sizes : Cut s
   pub leaf : q .0 < leavesOf (s .h)
   pub buckets : length path ≡ s .h * bucketWords (s .z)
   pub slots : length w ≡ 4 * (s .r + s .z * s .h)

@@ -8,10 +8,11 @@ use lib.Dec.{eqb}
 use Rattle.record.specs.declared.Leaf.{Leaf}
 use Rattle.record.specs.declared.Record.{Record}
 use Rattle.path.specs.declared.sizes.Sizes.{Sizes}
+use Rattle.least.specs.Least.{slotsAt}
 use Rattle.mend.specs.Mended.{pathWords}
-use Rattle.work.specs.PathWork.{slotsAfter, pathBuckets, rootAfter, leastAfter}
+use Rattle.work.specs.PathWork.{pathBuckets, leastAfter}
 use Rattle.work.proofs.BesideLaws.{top-same, mended-same}
-use Rattle.pair.specs.PairWork.{firstWay, secondWay, PairWorked}
+use Rattle.pair.specs.PairWork.{firstAfter, secondAfter, PairWorked}
 
 -- An Insert's first path: its sibling at level 1 is the second path, and is not looked at.
 pub pair-same :
@@ -19,14 +20,14 @@ pub pair-same :
     → 1 ≤ s .h → ((d : ℕ) → 2 ≤ d → d ≤ s .h → b d ≡ b′ d)
     → PairWorked s first second new b beside₂ way slots₂ w path₁ path₂ x
     → PairWorked s first second new b′ beside₂ way slots₂ w path₁ path₂ x
-unfolding pathBuckets rootAfter leastAfter
+unfolding pathBuckets leastAfter
 pair-same s first second new b b′ beside₂ way slots₂ w path₁ path₂ x high same p =
-    let slots = slotsAfter s first b (firstWay s first second new b beside₂ way slots₂) in
-    let way₂ = secondWay s first second new b beside₂ way slots₂ in
+    let slots = slotsAt (s .r) (s .z) (firstAfter s first new way) in
+    let after₂ = secondAfter s first second new way slots₂ in
     let top = top-same (s .h) first slots b b′ 2 same (omega arith) high in
     record {
       after = p .after;
       firstWords = p .firstWords ∙ ap pathWords (mended-same (s .h) first slots b b′ 2 same (omega arith));
-      secondWords = p .secondWords ∙ ap (λ (t : Record). pathWords (pathBuckets s second (λ d. cond (eqb d 1) t (beside₂ d)) way₂)) top;
-      least = p .least ∙ ap (λ (t : Record). leastAfter s second (λ d. cond (eqb d 1) t (beside₂ d)) way₂) top;
+      secondWords = p .secondWords ∙ ap (λ (t : Record). pathWords (pathBuckets s second (λ d. cond (eqb d 1) t (beside₂ d)) after₂)) top;
+      least = p .least ∙ ap (λ (t : Record). leastAfter s second (λ d. cond (eqb d 1) t (beside₂ d)) after₂) top;
     }

@@ -16,15 +16,15 @@ use Rattle.record.proofs.WordsLaws.{records-written, records-count}
 use Rattle.path.specs.declared.sizes.Sizes.{Sizes}
 use Rattle.path.specs.Layout.{bucketWords}
 use Rattle.path.specs.Path.{upFrom}
-use Rattle.least.specs.Least.{mendedAt, mended}
+use Rattle.least.specs.Least.{slotsAt, rootSlots, mendedAt, mended}
 use Rattle.gather.specs.Laid.{laidOver}
 use Rattle.gather.specs.Shown.{siblingsShown, slotsShown, wayShown}
 use Rattle.gather.proofs.LaidLaws.{laid-length}
 use Rattle.gather.proofs.ShownLaws.{siblings-length}
 use Rattle.gather.proofs.LoadedLaws.{path-loaded, sibling-loaded}
 use Rattle.mend.specs.Mended.{besideAt, pathWords}
-use Rattle.work.specs.PathWork.{slotsAfter, pathBuckets, rootAfter, PathWorked}
-use Rattle.pair.specs.PairWork.{seated, firstWay, secondWay, topFirst, secondBeside, secondSiblings, PairWorked}
+use Rattle.work.specs.PathWork.{pathBuckets, PathWorked}
+use Rattle.pair.specs.PairWork.{seated, firstAfter, topFirst, secondBeside, secondSiblings, PairWorked}
 use Rattle.work.proofs.BesideLaws.{worked-same}
 
 -- a path has a first bucket
@@ -46,21 +46,21 @@ module _ (s : Sizes) (first second : Leaf) (new : Record) (w₀ b₀ ws : List �
   abbrev S₂ : List Record
   S₂ = slotsShown (s .z) ws (s .h) (s .h)
 
-  abbrev W₁ : List Record
-  W₁ = firstWay s first second new B₁ (secondSiblings s ws) (records w₀) S₂
+  abbrev A₁ : List Record
+  A₁ = firstAfter s first new (records w₀)
 
   -- the first path's bucket at level 1 is read from its words
   pub top-read : (w₁ w₂ p₁ : List ℕ) (x₁ : Record) → records w₁ ≡ seated (s .r) new (records w₀)
       → PathWorked s first B₁ (records w₁) w₂ p₁ x₁
-      → recordAt p₁ 0 ≡ topFirst s first second new B₁ (secondSiblings s ws) (records w₀) S₂
+      → recordAt p₁ 0 ≡ topFirst s first B₁ A₁
   unfolding pathBuckets
   top-read w₁ w₂ p₁ x₁ seat one =
       let one′ = rw seat at one in
-      ap (λ (p : List ℕ). recordAt p 0) (one′ .buckets) ∙ first-top (s .h) first (slotsAfter s first B₁ W₁) B₁ some
+      ap (λ (p : List ℕ). recordAt p 0) (one′ .buckets) ∙ first-top (s .h) first (slotsAt (s .r) (s .z) A₁) B₁ some
 
   -- the siblings' scratch of the second path
   module _ (b₁ b₂ : List ℕ) (top : Record) (loaded : b₁ ≡ laidOver b₀ 1 (siblingsShown (s .z) ws (2 * s .h) (s .h - 1) (s .h + 1 - 2)))
-      (put : b₂ ≡ written b₁ 0 top) (is : top ≡ topFirst s first second new B₁ (secondSiblings s ws) (records w₀) S₂) where
+      (put : b₂ ≡ written b₁ 0 top) (is : top ≡ topFirst s first B₁ A₁) where
     long : length b₁ ≡ length b₀
     long =
         let n = siblings-length (s .z) ws (2 * s .h) (s .h - 1) (s .h + 1 - 2) in
@@ -81,7 +81,7 @@ module _ (s : Sizes) (first second : Leaf) (new : Record) (w₀ b₀ ws : List �
         ∙ sibling-loaded (s .h) (s .z) ws (2 * s .h) (s .h - 1) 2 b₀ (omega arith) siblings d l m
 
     pub second-beside : (d : ℕ) → 1 ≤ d → d ≤ s .h
-        → besideAt (records b₂) d ≡ secondBeside s first second new B₁ (secondSiblings s ws) (records w₀) S₂ d
+        → besideAt (records b₂) d ≡ secondBeside s first B₁ A₁ (secondSiblings s ws) d
     second-beside d l m = elim (decLe 2 d) [
       | yes h ↦ at-later d h m ∙ rw (ne-eqb d 1 (omega arith))
       | no h ↦ let e : d ≡ 1 = omega arith in rw e (at-first ∙ is)
@@ -94,10 +94,10 @@ module _ (s : Sizes) (first second : Leaf) (new : Record) (w₀ b₀ ws : List �
         → records w₁ ≡ seated (s .r) new (records w₀) → PathWorked s first B₁ (records w₁) w₂ p₁ x₁
         → w₃ ≡ laidOver w₂ (s .r) S₂ → PathWorked s second (besideAt (records b₂)) (records w₃) w₄ p₂ x
         → PairWorked s first second new B₁ (secondSiblings s ws) (records w₀) S₂ w₄ p₁ p₂ x
-    unfolding rootAfter wayShown
+    unfolding wayShown
     pair-worked w₁ w₂ w₃ w₄ p₁ p₂ x₁ x l given seat one load two =
         let one′ = rw seat at one in
-        let shown : records w₃ ≡ secondWay s first second new B₁ (secondSiblings s ws) (records w₀) S₂ =
+        let shown : records w₃ ≡ rootSlots (s .r) A₁ ++ S₂ =
         ap records load
         ∙ path-loaded (s .h) (s .z) (s .r) ws (s .h) given w₂ l
         ∙ ap (λ (v : List Record). take (s .r) v ++ S₂) (one′ .after) in

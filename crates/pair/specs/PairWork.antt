@@ -11,41 +11,32 @@ use Rattle.record.specs.declared.Record.{Record}
 use Rattle.record.specs.Standing.{isDummy}
 use Rattle.record.specs.Words.{records}
 use Rattle.path.specs.declared.sizes.Sizes.{Sizes}
-use Rattle.path.specs.Layout.{Contents}
 use Rattle.way.specs.Evict.{seek}
-use Rattle.least.specs.Least.{mendedAt}
+use Rattle.least.specs.Least.{slotsAt, rootSlots, mendedAt}
 use Rattle.gather.specs.Shown.{siblingAt}
 use Rattle.mend.specs.Mended.{pathWords, MendRoom}
-use Rattle.work.specs.PathWork.{evicted, slotsAfter, pathBuckets, rootAfter, leastAfter}
+use Rattle.work.specs.PathWork.{evicted, pathBuckets, leastAfter}
 
 -- "puts the record .. into the lowest dummy slot of the root": the first r places of its way. A root without one is
 -- refused at begin (10).
 unfoldable pub seated : ℕ → Record → List Record → List Record
 seated r new way = cond (ltb (seek isDummy r way) r) (set way (seek isDummy r way) new) way
 
--- "then evicts the first path, then the second". The paths share the root alone, so the first path's least records may be
--- worked out before the second is evicted.
-module _ (s : Sizes) (first second : Leaf) (new : Record) (beside₁ beside₂ : ℕ → Record) (way slots₂ : List Record) where
-  -- the first way, with the record in its root
-  abbrev pub firstWay : List Record
-  firstWay = seated (s .r) new way
+-- "then evicts the first path": the way with the record in its root
+abbrev pub firstAfter : Sizes → Leaf → Record → List Record → List Record
+firstAfter s first new way = evicted s first (seated (s .r) new way)
 
-  abbrev pub firstBuckets : List Contents
-  firstBuckets = pathBuckets s first beside₁ firstWay
+-- "then the second": what the first left in the root, then the second path's slots
+abbrev pub secondAfter : Sizes → Leaf → Leaf → Record → List Record → List Record → List Record
+secondAfter s first second new way slots₂ = evicted s second (rootSlots (s .r) (firstAfter s first new way) ++ slots₂)
 
-  -- the second: what the first left in the root, then the second path's slots
-  abbrev pub secondWay : List Record
-  secondWay = rootAfter s first beside₁ firstWay ++ slots₂
-
-  -- the sibling of the second path's bucket at level 1 is the first path's
+-- the least records beside the second path: its sibling at level 1 is the first path's bucket, `after` its evicted way
+module _ (s : Sizes) (first : Leaf) (beside₁ : ℕ → Record) (after : List Record) where
   abbrev pub topFirst : Record
-  topFirst = mendedAt (s .h) first (slotsAfter s first beside₁ firstWay) beside₁ 1 .least
+  topFirst = mendedAt (s .h) first (slotsAt (s .r) (s .z) after) beside₁ 1 .least
 
-  abbrev pub secondBeside : ℕ → Record
-  secondBeside d = cond (eqb d 1) topFirst (beside₂ d)
-
-  abbrev pub secondBuckets : List Contents
-  secondBuckets = pathBuckets s second secondBeside secondWay
+  abbrev pub secondBeside : (ℕ → Record) → ℕ → Record
+  secondBeside beside₂ d = cond (eqb d 1) topFirst (beside₂ d)
 
 -- the siblings of an Insert's first path from level 2 on, behind both paths' whole buckets; and of its second, behind these
 abbrev pub firstSiblings : Sizes → List ℕ → ℕ → Record
@@ -54,24 +45,24 @@ firstSiblings s ws d = siblingAt (s .z) ws (2 * s .h) (d - 2)
 abbrev pub secondSiblings : Sizes → List ℕ → ℕ → Record
 secondSiblings s ws d = siblingAt (s .z) ws (2 * s .h) (s .h - 1 + (d - 2))
 
--- what the work on an Insert's two paths leaves in the scratches of the way and of each path's buckets, and its answer
+-- what the work on an Insert's two paths leaves in the scratches of the way and of each path's buckets, and its answer: the
+-- least records of both paths, evicted one after the other.
 pub record PairWorked
     (s : Sizes) (first second : Leaf) (new : Record) (beside₁ beside₂ : ℕ → Record) (way slots₂ : List Record)
     (w path₁ path₂ : List ℕ) (x : Record) : Type 0 where
-  pub after :
-      records w
-      ≡ evicted s second (secondBeside s first second new beside₁ beside₂ way slots₂)
-      (secondWay s first second new beside₁ beside₂ way slots₂)
-  pub firstWords : path₁ ≡ pathWords (firstBuckets s first second new beside₁ beside₂ way slots₂)
-  pub secondWords : path₂ ≡ pathWords (secondBuckets s first second new beside₁ beside₂ way slots₂)
+  pub after : records w ≡ secondAfter s first second new way slots₂
+  pub firstWords : path₁ ≡ pathWords (pathBuckets s first beside₁ (firstAfter s first new way))
+  pub secondWords :
+      path₂
+      ≡ pathWords (pathBuckets s second (secondBeside s first beside₁ (firstAfter s first new way) beside₂)
+      (secondAfter s first second new way slots₂))
   pub least :
       x
-      ≡ leastAfter s second (secondBeside s first second new beside₁ beside₂ way slots₂)
-      (secondWay s first second new beside₁ beside₂ way slots₂)
+      ≡ leastAfter s second (secondBeside s first beside₁ (firstAfter s first new way) beside₂)
+      (secondAfter s first second new way slots₂)
 
 -- what is asked: the room of one path for each, and the fetched words of both
 pub record PairRoom (s : Sizes) (first second : Leaf) (path₁ path₂ w beside words : List ℕ) : Type 0 where
-  pub some : 1 ≤ s .h
   pub one : MendRoom s first path₁ w beside
   pub two : MendRoom s second path₂ w beside
   pub fetched : 4 * (2 * s .h * (s .z + 1) + 2 * (s .h - 1)) ≤ length words

@@ -18,7 +18,7 @@ use Rattle.mend.specs.Mended.{pathWords}
 use Rattle.sound.specs.Sound.{sound, pathSound, siblingsSound}
 use Rattle.truth.specs.Leasts.{kidsShown, leastsTrue}
 use Rattle.damage.specs.Damaged.{pathDamaged, pairDamaged}
-use Rattle.work.specs.PathWork.{pathBuckets, rootAfter, leastAfter}
+use Rattle.work.specs.PathWork.{pathBuckets, leastAfter}
 use Rattle.pair.specs.PairWork.{seated}
 use Rattle.judge.specs.BadParts.{oddLeast, badParts}
 use Rattle.settle.specs.Left.{removal, insertion, removalDamaged, insertionDamaged}
@@ -45,7 +45,7 @@ unfolding flatMap every reals bears stampTwice noLater smallerBy smallestBy same
     records wordsOf pairList pathList sum wordsMoved pathBucket holds siblingOf upFrom path between treeIn inRange
     firstGiven strangeSlot usedPast stampShared rootRecords greaterThanSome rootFull seek fits movedTo pull pulls
     evictUp evict slotsAt inOrder kids named found removed wholeAt siblingAt siblingsShown slotsShown wayShown
-    pathWords sound pathSound siblingsSound kidsShown leastsTrue pathDamaged pairDamaged pathBuckets rootAfter
+    pathWords sound pathSound siblingsSound kidsShown leastsTrue pathDamaged pairDamaged pathBuckets
     leastAfter seated oddLeast badParts removal insertion removalDamaged insertionDamaged orRefused badCard startTable
     listOf beginTable minTable leftBy damagedBy entryTable finishedBy insertRows extractRows deleteRows requestRows
     waits anyOutside stored digits fewest valueFrom allDigits isNumber behind pieces before sameBytes allNumbers saidOf

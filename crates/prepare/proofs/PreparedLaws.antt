@@ -16,16 +16,15 @@ use Rattle.mend.specs.Mended.{pathWords, besideAt}
 use Rattle.mend.proofs.PartLaws.{path-words-append}
 use Rattle.judge.specs.BadParts.{badParts}
 use Rattle.pair.specs.PairWork.{firstSiblings, secondSiblings, PairWorked}
-use Rattle.work.specs.PathWork.{rootAfter}
 use Rattle.pair.proofs.BesideLaws.{pair-same}
 use Rattle.settle.specs.declared.Settled.{Settled}
-use Rattle.settle.specs.Left.{Left, pathWay, insertion, insertionDamaged}
+use Rattle.settle.specs.Left.{Left, pathWay, lowerLeft, upperLeft, insertion, pairBad, insertionDamaged}
 use Rattle.settle.specs.Settled.{unsettled, judged, Prepares}
 use Rattle.settle.proofs.PreparedLaws.{not-prepared, is-prepared}
 use Rattle.look.specs.declared.Looked.{Looked}
-use Rattle.look.specs.Look.{PairLooks, pairBad}
+use Rattle.look.specs.Look.{PairLooks}
 use Rattle.look.proofs.PairLaws.{below-at}
-use Rattle.prepare.specs.Prepared.{PairPrepared, lowerLeft, upperLeft}
+use Rattle.prepare.specs.Prepared.{PairPrepared}
 
 module _ (s : Sizes) (t c : ℕ) (root : List Record) (least : Record) (ws : List ℕ) (first second : Leaf) (new : Record)
     (w beside : List ℕ) (seen : Looked) (looked : PairLooks s t root least ws first second w beside seen) where
@@ -36,7 +35,7 @@ module _ (s : Sizes) (t c : ℕ) (root : List Record) (least : Record) (ws : Lis
   damaged = insertionDamaged s t c root least ws first second new
 
   told : damaged ≡ (seen .damaged || badParts s (t + 1) (left .c) (left .root) (left .least))
-  unfolding insertionDamaged pairBad
+  unfolding insertionDamaged
   told =
       let u : t + 1 ≡ suc t = omega arith in
       rw (looked .verdict, u)
@@ -56,13 +55,13 @@ module _ (s : Sizes) (t c : ℕ) (root : List Record) (least : Record) (ws : Lis
       (work : PairWorked s first second new (besideAt (records beside)) (secondSiblings s ws) (records w) (slotsShown (s .z) ws (s .h) (s .h)) w₁ one two x)
       (next : List Record) (saved : next ≡ take (s .r) (records w₁) ++ drop (s .r) root) (good : seen .damaged ≡ false) where
     abbrev Same : Type 0
-    Same = PairWorked s first second new (firstSiblings s ws) (secondSiblings s ws) (pathWay s c root ws) (slotsShown (s .z) ws (s .h) (s .h)) w₁ one two x
+    Same = PairWorked s first second new (firstSiblings s ws) (secondSiblings s ws) (pathWay s root ws) (slotsShown (s .z) ws (s .h) (s .h)) w₁ one two x
 
     same : Same
     same =
         let alike : (d : ℕ) → 2 ≤ d → d ≤ s .h → besideAt (records beside) d ≡ firstSiblings s ws d =
         λ d l m. below-at s ws 0 (records beside) (looked .siblings) d l m ∙ ap (siblingAt (s .z) ws (2 * s .h)) (zero-add (d - 2)) in
-        pair-same s first second new (besideAt (records beside)) (firstSiblings s ws) (secondSiblings s ws) (pathWay s c root ws) (slotsShown (s .z) ws (s .h) (s .h)) w₁ one two x high alike (rw (looked .way) at work)
+        pair-same s first second new (besideAt (records beside)) (firstSiblings s ws) (secondSiblings s ws) (pathWay s root ws) (slotsShown (s .z) ws (s .h) (s .h)) w₁ one two x high alike (rw (looked .way) at work)
 
     ready : one ++ two ≡ pathWords (left .buckets)
     unfolding insertion
@@ -71,7 +70,7 @@ module _ (s : Sizes) (t c : ℕ) (root : List Record) (least : Record) (ws : Lis
     pub left-judged : (out : Settled)
         → out ≡ judged root least c s (t + 1) (record { root = next; least = x; c = c + 1; found = false; moved = seen .moved; damaged = false })
         → PairPrepared s t c root least ws first second new one₀ two₀ one two out
-    unfolding insertion rootAfter
+    unfolding insertion
     left-judged out e =
         let k : c + 1 ≡ suc c = omega arith in
         let v = sym (looked .verdict) ∙ good in
@@ -84,7 +83,7 @@ module _ (s : Sizes) (t c : ℕ) (root : List Record) (least : Record) (ws : Lis
 -- the two paths' words together, for the stores
 module _ (s : Sizes) (t c : ℕ) (root : List Record) (least : Record) (ws : List ℕ) (first second : Leaf) (new : Record) where
   fetched-good : insertionDamaged s t c root least ws first second new ≡ false → pairBad s t root least ws first second ≡ false
-  unfolding insertionDamaged pairBad
+  unfolding insertionDamaged
   fetched-good g = neither _ _ .0 g .0
 
   pub pair-prepares : (one₀ two₀ one two : List ℕ) (out : Settled) → PairPrepared s t c root least ws first second new one₀ two₀ one two out
@@ -96,7 +95,7 @@ module _ (s : Sizes) (t c : ℕ) (root : List Record) (least : Record) (ws : Lis
         ready =
             λ g.
             let v : pairBad s t root least ws first second ≡ false = fetched-good g in
-            let a : one ≡ pathWords (lowerLeft s c root ws first second new) = rw v at (p .lower) in
-            let b : two ≡ pathWords (upperLeft s c root ws first second new) = rw v at (p .upper) in
+            let a : one ≡ pathWords (lowerLeft s root ws first new) = rw v at (p .lower) in
+            let b : two ≡ pathWords (upperLeft s root ws first second new) = rw v at (p .upper) in
             rw (path-words-append, ← a, ← b);
       }

@@ -6,23 +6,11 @@ use mathlib.Core.Path.{_≡_}
 use Rattle.record.specs.declared.Leaf.{Leaf}
 use Rattle.record.specs.declared.Record.{Record}
 use Rattle.path.specs.declared.sizes.Sizes.{Sizes}
-use Rattle.path.specs.Layout.{Contents, recordWords}
+use Rattle.path.specs.Layout.{recordWords}
 use Rattle.mend.specs.Mended.{pathWords}
-use Rattle.pair.specs.PairWork.{firstSiblings, secondSiblings, firstBuckets, secondBuckets}
 use Rattle.settle.specs.declared.Settled.{Settled}
-use Rattle.settle.specs.Left.{pathWay, secondSlots, insertion, insertionDamaged}
+use Rattle.settle.specs.Left.{lowerLeft, upperLeft, insertion, pairBad, insertionDamaged}
 use Rattle.settle.specs.Settled.{settled, unsettled}
-use Rattle.look.specs.Look.{pairBad}
-
--- the buckets that an Insert leaves, of its first path and of its second
-module _ (s : Sizes) (c : ℕ) (root : List Record) (ws : List ℕ) (first second : Leaf) (new : Record) where
-  abbrev pub lowerLeft : List Contents
-  lowerLeft =
-      firstBuckets s first second new (firstSiblings s ws) (secondSiblings s ws) (pathWay s c root ws) (secondSlots s c root ws first second new)
-
-  abbrev pub upperLeft : List Contents
-  upperLeft =
-      secondBuckets s first second new (firstSiblings s ws) (secondSiblings s ws) (pathWay s c root ws) (secondSlots s c root ws first second new)
 
 -- the words moved so far are the siblings'. Where what was fetched is Damaged the buckets' scratches stay as they were
 pub record PairPrepared
@@ -32,5 +20,5 @@ pub record PairPrepared
       out
       ≡ cond (insertionDamaged s t c root least ws first second new) (unsettled root least c)
       (settled (insertion s c root ws first second new) (2 * (s .h - 1) * recordWords))
-  pub lower : one ≡ cond (pairBad s t root least ws first second) one₀ (pathWords (lowerLeft s c root ws first second new))
-  pub upper : two ≡ cond (pairBad s t root least ws first second) two₀ (pathWords (upperLeft s c root ws first second new))
+  pub lower : one ≡ cond (pairBad s t root least ws first second) one₀ (pathWords (lowerLeft s root ws first new))
+  pub upper : two ≡ cond (pairBad s t root least ws first second) two₀ (pathWords (upperLeft s root ws first second new))

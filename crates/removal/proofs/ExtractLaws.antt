@@ -14,12 +14,10 @@ use Rattle.path.specs.declared.sizes.Sizes.{Sizes}
 use Rattle.path.specs.Sizes.{leavesOf}
 use Rattle.way.specs.Evict.{seek}
 use Rattle.clearing.specs.Removal.{named, found, removed}
-use Rattle.sound.specs.Fetched.{pathFetched}
-use Rattle.damage.specs.Damaged.{pathDamaged}
 use Rattle.damage.proofs.Found.{shown-extract-by-name, shown-extract-found}
 use Rattle.judge.specs.BadParts.{stampOf}
 use Rattle.settle.specs.declared.Settled.{Settled}
-use Rattle.settle.specs.Left.{Left, pathWay, removal, removalDamaged}
+use Rattle.settle.specs.Left.{Left, pathWay, removal, pathBad, removalDamaged}
 use Rattle.settle.specs.Room.{RemovalRoom}
 use Rattle.settle.specs.Settled.{Settles}
 use Rattle.settle.proofs.PreparedLaws.{settles-same}
@@ -38,13 +36,13 @@ module _ (s : Sizes) (t c : ℕ) (root : List Record) (m : Record) (ws : List �
   byName = named (m .label) (m .stamp)
 
   abbrev fetchedBad : Bool
-  fetchedBad = pathDamaged (s .h) (s .r) (stampOf t) m (pathFetched (s .h) (s .z) (m .label) ws) (pathWay s c root ws)
+  fetchedBad = pathBad s t root m ws (m .label)
 
-  found-same : fetchedBad ≡ false → seek byName (length (pathWay s c root ws)) (pathWay s c root ws) ≡ seek (same m) (length (pathWay s c root ws)) (pathWay s c root ws)
+  found-same : fetchedBad ≡ false → seek byName (length (pathWay s root ws)) (pathWay s root ws) ≡ seek (same m) (length (pathWay s root ws)) (pathWay s root ws)
   found-same good =
       let k = room .fetched in
       let given : 4 * (s .h * (s .z + 1)) ≤ length ws = omega arith in
-      seek-same byName (same m) _ (pathWay s c root ws)
+      seek-same byName (same m) _ (pathWay s root ws)
       (shown-extract-by-name (s .h) (s .z) (s .r) root ws full given (stampOf t) m (room .parts .sizes .height .0) proper good)
 
   left-same : fetchedBad ≡ false → removal s c root ws (m .label) byName ≡ removal s c root ws (m .label) (same m)

@@ -16,12 +16,10 @@ use Rattle.record.specs.Standing.{dummy, isDummy}
 use Rattle.record.proofs.StandingLaws.{dummy-is, is-dummy}
 use Rattle.path.specs.declared.sizes.Sizes.{Sizes}
 use Rattle.clearing.specs.Removal.{named, found}
-use Rattle.sound.specs.Fetched.{pathFetched}
-use Rattle.damage.specs.Damaged.{pathDamaged}
 use Rattle.damage.proofs.Empty.{none-found}
 use Rattle.judge.specs.BadParts.{stampOf, oddLeast}
 use Rattle.judge.proofs.FitLaws.{Fit}
-use Rattle.settle.specs.Left.{pathWay, removal, removalDamaged}
+use Rattle.settle.specs.Left.{pathWay, removal, pathBad, removalDamaged}
 use Rattle.settle.specs.Room.{RemovalRoom}
 
 -- the dummy has no name
@@ -40,11 +38,11 @@ no-least n next least e = elim (dichotomy (isDummy least)) [
 module _ (s : Sizes) (t c : ℕ) (root : List Record) (least : Record) (ws : List ℕ) (label : Leaf) (stamp : Stamp)
     (fit : Fit s t c root least) (full : s .r ≤ length root) (room : RemovalRoom s t c label ws)
     (good : removalDamaged s t c root least ws label (named label stamp) ≡ false) where
-  fetched-good : pathDamaged (s .h) (s .r) (stampOf t) least (pathFetched (s .h) (s .z) label ws) (pathWay s c root ws) ≡ false
+  fetched-good : pathBad s t root least ws label ≡ false
   unfolding removalDamaged
   fetched-good = neither _ _ .0 good .0
 
-  none-there : c ≡ 0 → found (named label stamp) (pathWay s c root ws) ≡ false
+  none-there : c ≡ 0 → found (named label stamp) (pathWay s root ws) ≡ false
   none-there e =
       let empty = no-least _ _ least (rw e at (fit .odd)) in
       let k = room .fetched in

@@ -22,7 +22,7 @@ use Rattle.settle.specs.Room.{RemovalRoom}
 use Rattle.settle.specs.Settled.{unsettled, judged, Prepares}
 use Rattle.settle.proofs.PreparedLaws.{not-prepared, is-prepared}
 use Rattle.look.specs.declared.Looked.{Looked}
-use Rattle.look.specs.Look.{PathLooks, pathBad}
+use Rattle.look.specs.Look.{PathLooks}
 
 -- the words are long enough for the stores
 pub store-room : (s : Sizes) (t c : ℕ) (q : Leaf) (ws path : List ℕ) → RemovalRoom s t c q ws → length path ≡ s .h * bucketWords (s .z)
@@ -40,7 +40,7 @@ module _ (s : Sizes) (t c : ℕ) (root : List Record) (least : Record) (ws : Lis
   damaged = removalDamaged s t c root least ws q f
 
   told : damaged ≡ (seen .damaged || badParts s (t + 1) (left .c) (left .root) (left .least))
-  unfolding removalDamaged pathBad
+  unfolding removalDamaged
   told =
       let u : t + 1 ≡ suc t = omega arith in
       rw (looked .verdict, u)

@@ -11,7 +11,6 @@ use path::Sizes;
 use path::leaves;
 use record::DUMMY_KEY;
 use record::Leaf;
-use record::RECORD_WORDS;
 use record::Stamp;
 use refusal::BAD_KEY;
 use refusal::BAD_LEAF;
@@ -91,8 +90,7 @@ fn why_insert(
         return FULL;
     }
     let r = sizes.r as usize;
-    let end = RECORD_WORDS * r;
-    if root::all_real(&root[..end], r) {
+    if root::all_real(root, r) {
         return OVERFLOW;
     }
     0

@@ -1,12 +1,15 @@
 -- A pass over slots that stand in words, place by place. Assumes nothing.
-use Prim.Native.Nat.{ℕ, _+_, _/_, _≤_, _<_}
+use Prim.Native.Nat.{ℕ, zero, suc, _+_, _/_, _≤_, _<_}
 use mathlib.Core.Bool.{Bool, true, false, _||_, and-false}
-use mathlib.Core.List.{List}
+use mathlib.Core.List.{List, [], _∷_}
+use mathlib.Core.Logic.{inl, inr}
 use mathlib.Core.Path.{_≡_, refl, sym, ap, _∙_}
+use mathlib.Mathlib.Data.Bool.Basic.{dichotomy}
 use native.Mathlib.Omega.{arith}
-use lib.Dec.{leb}
+use lib.Dec.{leb, eqb, eqb·suc-suc, eqb·zero-suc}
 use lib.ListN.{length, take}
 use lib.Seq.{take-all}
+use borrow.Author.Tests.{eq-eqb}
 use Rattle.record.specs.declared.Stamp.{Stamp}
 use Rattle.record.specs.declared.Record.{Record}
 use Rattle.record.specs.Standing.{dummy, isDummy, isProper, mayStand}
@@ -15,7 +18,8 @@ use Rattle.record.specs.Many.{every, reals}
 use Rattle.record.specs.Words.{recordAt, records}
 use Rattle.record.proofs.PlacesLaws.{pass-starts, pass-turns, pass-fails, pass-ends, reals-dummy, reals-next}
 use Rattle.record.proofs.WordsLaws.{records-at, records-count}
-use Rattle.root.specs.Root.{slotsFine}
+use Rattle.way.specs.Evict.{seek}
+use Rattle.root.specs.Root.{slotsFine, rootFull}
 
 -- a record that is the dummy, or no earlier than `least`
 unfoldable pub noEarlier : Record → Record → Bool
@@ -83,3 +87,13 @@ module _ (ws : List ℕ) (leaves : ℕ) (next : Stamp) (least : Record) where
   fine-ends i count live p h =
       let whole = take-all i (records ws) (omega (arith, records-count ws)) in
       rw (pass-ends (mayStand leaves next) ws i h (p .stand), pass-ends (noEarlier least) ws i h (p .after), p .counted, whole)
+
+-- "every root slot real": the lowest dummy slot is none of them
+pub full-slots : (n : ℕ) (xs : List Record) → eqb (seek isDummy n xs) n ≡ rootFull n xs
+unfolding rootFull seek every
+full-slots zero xs = refl
+full-slots (suc n) [] = eq-eqb (suc n) (suc n) refl
+full-slots (suc n) (x ∷ xs) = elim (dichotomy (isDummy x)) [
+  | inl f ↦ rw f (eqb·suc-suc _ n ∙ full-slots n xs)
+  | inr t ↦ rw t (eqb·zero-suc n)
+]

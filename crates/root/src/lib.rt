@@ -1,13 +1,11 @@
 // The root's slots, as a lent slice of words, four to a slot: what BadCard and Overflow ask of them (document 01,
-// "Refusal numbers"). Stands on `record`.
+// "Refusal numbers"), and the slot that an Insert takes. Stands on `record` and the definitions of `way`.
 ghost use mathlib.Core.Path.{_≡_};
-ghost use mathlib.Core.Bool.{not};
-ghost use Prim.Native.Nat.{_*_};
-ghost use lib.ListN.{length};
 ghost use Rattle.record.specs.Standing.{isDummy};
 ghost use Rattle.record.specs.Many.{every};
 ghost use Rattle.record.specs.Words.{records};
-ghost use Rattle.root.specs.Root.{slotsFine};
+ghost use Rattle.way.specs.Evict.{seek};
+ghost use Rattle.root.specs.Root.{slotsFine, rootFull};
 use record::RECORD_WORDS;
 use record::Record;
 use record::Stamp;
@@ -50,17 +48,27 @@ pub fn all_dummies(places: &[u64]) -> bool
     true
 }
 
-// For crates above: whether no slot is the dummy.
-pub fn all_real(slots: &[u64], n: usize) -> bool
-    requires { ⌜ length (now slots) ≡ 4 * n ⌝ }
-    ensures { λ r. ⌜ r ≡ every (λ x. not (isDummy x)) (records (now (slots .entry))) ⌝ }
+// For crates above: the lowest of the first n slots that is the dummy; n if none is.
+pub fn lowest_dummy(slots: &[u64], n: usize) -> usize
+    ensures { λ i. ⌜ i ≡ seek isDummy n (records (now (slots .entry))) ⌝ }
 {
-    let mut i = 0;
-    while i < n {
-        if Record::read(slots, i).is_dummy() {
-            return false;
+    let there = slots.len() / RECORD_WORDS;
+    let mut place = 0;
+    while place < n {
+        if place >= there {
+            return n;
         }
-        i += 1;
+        if Record::read(slots, place).is_dummy() {
+            return place;
+        }
+        place += 1;
     }
-    true
+    n
+}
+
+// For crates above: "every root slot real".
+pub fn all_real(slots: &[u64], n: usize) -> bool
+    ensures { λ r. ⌜ r ≡ rootFull n (records (now (slots .entry))) ⌝ }
+{
+    lowest_dummy(slots, n) == n
 }

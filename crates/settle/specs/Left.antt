@@ -8,15 +8,16 @@ use Rattle.record.specs.declared.Leaf.{Leaf}
 use Rattle.record.specs.declared.Record.{Record}
 use Rattle.path.specs.declared.sizes.Sizes.{Sizes}
 use Rattle.path.specs.Layout.{Contents}
+use Rattle.least.specs.Least.{rootSlots}
 use Rattle.clearing.specs.Removal.{found}
 use Rattle.gather.specs.Shown.{siblingsShown, slotsShown, wayShown}
 use Rattle.mend.specs.Mended.{pathWords}
 use Rattle.sound.specs.Fetched.{pathFetched, firstFetched, secondFetched}
 use Rattle.damage.specs.Damaged.{pathDamaged, pairDamaged}
 use Rattle.judge.specs.BadParts.{stampOf, badParts}
-use Rattle.work.specs.PathWork.{rootAfter, leastAfter}
-use Rattle.work.specs.RemovalWork.{removalBuckets, removalRoot, removalLeast, rooted}
-use Rattle.pair.specs.PairWork.{firstSiblings, secondSiblings, secondWay, secondBeside, firstBuckets, secondBuckets}
+use Rattle.work.specs.PathWork.{pathBuckets, leastAfter}
+use Rattle.work.specs.RemovalWork.{removalRoot, removalBuckets, removalLeast, rooted}
+use Rattle.pair.specs.PairWork.{firstAfter, secondAfter, secondBeside, firstSiblings, secondSiblings}
 
 -- the root's 64 places and its least record, the count of live events, whether a record was found to remove, and the whole
 -- buckets in list order
@@ -31,63 +32,78 @@ pub record Left : Type 0 where
 abbrev pub wordsLeft : Left → List ℕ → List ℕ
 wordsLeft l ws = pathWords (l .buckets) ++ drop (length (pathWords (l .buckets))) ws
 
+-- what is shown of one path, an Insert's first too: its way, and the least records of its siblings
+abbrev pub pathWay : Sizes → List Record → List ℕ → List Record
+pathWay s root ws = wayShown (s .h) (s .z) (s .r) root ws 0
+
+abbrev pub pathSiblings : Sizes → List ℕ → List Record
+pathSiblings s ws = siblingsShown (s .z) ws (s .h) 0 (s .h)
+
+-- and of an Insert's second: its slots
+abbrev pub secondSlots : Sizes → List ℕ → List Record
+secondSlots s ws = slotsShown (s .z) ws (s .h) (s .h)
+
+-- Insert: "puts the record .. into the lowest dummy slot of the root, then evicts the first path, then the second". The
+-- first path's way after that, and the second's.
+module _ (s : Sizes) (root : List Record) (ws : List ℕ) where
+  abbrev pub lowerAfter : Leaf → Record → List Record
+  lowerAfter first new = firstAfter s first new (pathWay s root ws)
+
+  abbrev pub upperAfter : Leaf → Leaf → Record → List Record
+  upperAfter first second new = secondAfter s first second new (pathWay s root ws) (secondSlots s ws)
+
+  -- the least records beside the second path, and the buckets that each path is left with
+  abbrev pub upperBeside : Leaf → Record → ℕ → Record
+  upperBeside first new = secondBeside s first (firstSiblings s ws) (lowerAfter first new) (secondSiblings s ws)
+
+  abbrev pub lowerLeft : Leaf → Record → List Contents
+  lowerLeft first new = pathBuckets s first (firstSiblings s ws) (lowerAfter first new)
+
+  abbrev pub upperLeft : Leaf → Leaf → Record → List Contents
+  upperLeft first second new = pathBuckets s second (upperBeside first new) (upperAfter first second new)
+
 module _ (s : Sizes) (c : ℕ) (root : List Record) (ws : List ℕ) where
-  -- the way of one path, and the least records of its siblings
-  abbrev pub pathWay : List Record
-  pathWay = wayShown (s .h) (s .z) (s .r) root ws 0
-
-  abbrev pub pathSiblings : List Record
-  pathSiblings = siblingsShown (s .z) ws (s .h) 0 (s .h)
-
   -- ExtractMin and Delete: the record that passes is replaced by the dummy, "or answers Absent and removes nothing. Then
   -- the path is evicted."
   unfoldable pub removal : Leaf → (Record → Bool) → Left
   removal q f =
       record {
-        root = rooted (s .r) (removalRoot s q f pathSiblings pathWay) root;
-        least = removalLeast s q f pathSiblings pathWay;
-        c = cond (found f pathWay) (c - 1) c;
-        found = found f pathWay;
-        buckets = removalBuckets s q f pathSiblings pathWay;
+        root = rooted (s .r) (removalRoot s q f (pathWay s root ws)) root;
+        least = removalLeast s q f (pathSiblings s ws) (pathWay s root ws);
+        c = cond (found f (pathWay s root ws)) (c - 1) c;
+        found = found f (pathWay s root ws);
+        buckets = removalBuckets s q f (pathSiblings s ws) (pathWay s root ws);
       }
 
-  -- Insert: "puts the record .. into the lowest dummy slot of the root, then evicts the first path, then the second"
-  module _ (first second : Leaf) (new : Record) where
-    -- the slots of the second path
-    abbrev pub secondSlots : List Record
-    secondSlots = slotsShown (s .z) ws (s .h) (s .h)
+  unfoldable pub insertion : Leaf → Leaf → Record → Left
+  insertion first second new =
+      record {
+        root = rooted (s .r) (rootSlots (s .r) (upperAfter s root ws first second new)) root;
+        least = leastAfter s second (upperBeside s root ws first new) (upperAfter s root ws first second new);
+        c = suc c;
+        found = false;
+        buckets = lowerLeft s root ws first new ++ upperLeft s root ws first second new;
+      }
 
-    abbrev pub lastWay : List Record
-    lastWay = secondWay s first second new (firstSiblings s ws) (secondSiblings s ws) pathWay secondSlots
+-- "or the card that would come out is a BadCard": that card has finished one request more, and none waits on it
+abbrev pub badLeft : Sizes → ℕ → Left → Bool
+badLeft s t l = badParts s (suc t) (l .c) (l .root) (l .least)
 
-    abbrev pub lastBeside : ℕ → Record
-    lastBeside = secondBeside s first second new (firstSiblings s ws) (secondSiblings s ws) pathWay secondSlots
+-- Damaged, its first three clauses: those of what was fetched
+module _ (s : Sizes) (t : ℕ) (root : List Record) (least : Record) (ws : List ℕ) where
+  abbrev pub pathBad : Leaf → Bool
+  pathBad q = pathDamaged (s .h) (s .r) (stampOf t) least (pathFetched (s .h) (s .z) q ws) (pathWay s root ws)
 
-    unfoldable pub insertion : Left
-    insertion =
-        record {
-          root = rooted (s .r) (rootAfter s second lastBeside lastWay) root;
-          least = leastAfter s second lastBeside lastWay;
-          c = suc c;
-          found = false;
-          buckets =
-              firstBuckets s first second new (firstSiblings s ws) (secondSiblings s ws) pathWay secondSlots
-              ++ secondBuckets s first second new (firstSiblings s ws) (secondSiblings s ws) pathWay secondSlots;
-        }
+  abbrev pub pairBad : Leaf → Leaf → Bool
+  pairBad first second =
+      pairDamaged (s .h) (s .r) (stampOf t) least (firstFetched (s .h) (s .z) first ws) (secondFetched (s .h) (s .z) second ws)
+      (wayShown (2 * s .h) (s .z) (s .r) root ws 0)
 
--- Damaged, all four clauses: the first three of what was fetched, then "or the card that would come out is a BadCard". That
--- card has finished one request more, and none waits on it.
+-- Damaged, all four clauses
 module _ (s : Sizes) (t c : ℕ) (root : List Record) (least : Record) (ws : List ℕ) where
-  abbrev pub badLeft : Left → Bool
-  badLeft l = badParts s (suc t) (l .c) (l .root) (l .least)
-
   unfoldable pub removalDamaged : Leaf → (Record → Bool) → Bool
-  removalDamaged q f =
-      pathDamaged (s .h) (s .r) (stampOf t) least (pathFetched (s .h) (s .z) q ws) (pathWay s c root ws)
-      || badLeft (removal s c root ws q f)
+  removalDamaged q f = pathBad s t root least ws q || badLeft s t (removal s c root ws q f)
 
   unfoldable pub insertionDamaged : Leaf → Leaf → Record → Bool
   insertionDamaged first second new =
-      pairDamaged (s .h) (s .r) (stampOf t) least (firstFetched (s .h) (s .z) first ws) (secondFetched (s .h) (s .z) second ws)
-      (wayShown (2 * s .h) (s .z) (s .r) root ws 0)
-      || badLeft (insertion s c root ws first second new)
+      pairBad s t root least ws first second || badLeft s t (insertion s c root ws first second new)

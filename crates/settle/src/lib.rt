@@ -8,7 +8,10 @@ ghost use Rattle.path.specs.Layout.{bucketWords};
 ghost use Rattle.judge.specs.BadParts.{badParts};
 ghost use Rattle.settle.specs.Room.{Cut};
 ghost use Rattle.settle.specs.Settled.{unsettled, judged};
-use judge::ROOT_PLACES;
+use path::HEIGHT_MOST;
+use path::ROOT_PLACES;
+use path::ROOT_WORDS;
+use path::SLOTS_MOST;
 use path::Sizes;
 use record::RECORD_WORDS;
 use record::Record;
@@ -16,7 +19,7 @@ use record::Record;
 // What a finish makes of the card's parts, whether a record was found to remove, and the words moved; or, where it is
 // Damaged, the parts as they came.
 pub struct Settled {
-    pub root: [Record; 64],
+    pub root: [Record; ROOT_PLACES],
     pub least: Record,
     pub c: u64,
     pub found: bool,
@@ -26,13 +29,13 @@ pub struct Settled {
 
 // The longest scratches, for sizes at the top of their ranges: a way's slots, with one path's or both; a path's siblings;
 // a path's buckets.
-pub const WAY_MOST: usize = 576;
+pub const WAY_MOST: usize = ROOT_WORDS + RECORD_WORDS * (SLOTS_MOST * HEIGHT_MOST) as usize;
 
-pub const WAYS_MOST: usize = 896;
+pub const WAYS_MOST: usize = ROOT_WORDS + 2 * RECORD_WORDS * (SLOTS_MOST * HEIGHT_MOST) as usize;
 
-pub const SIBLINGS_MOST: usize = 64;
+pub const SIBLINGS_MOST: usize = RECORD_WORDS * HEIGHT_MOST as usize;
 
-pub const PATH_MOST: usize = 384;
+pub const PATH_MOST: usize = RECORD_WORDS * (HEIGHT_MOST * (SLOTS_MOST + 1)) as usize;
 
 // For crates above: the words of a scratch with the root's slots and those of so many buckets.
 pub fn way_words(sizes: Sizes, buckets: usize) -> usize
@@ -72,7 +75,7 @@ pub fn unsettled(root: [Record; 64], least: Record, c: u64) -> Settled
 fn comes_out_bad(root: [Record; 64], sizes: Sizes, t: u64, c: u64, least: Record) -> bool
     ensures { λ b. ⌜ b ≡ badParts sizes t c root least ⌝ }
 {
-    let mut places = [0u64; 256];
+    let mut places = [0u64; ROOT_WORDS];
     gather::load_root(&mut places, root, ROOT_PLACES);
     judge::are_parts_bad(&places, sizes, t, c, least)
 }

@@ -26,7 +26,7 @@ pub way-shown :
     → records w₂ ≡ wayShown n (s .z) (s .r) root ws 0
 way-shown s n root ws w₀ w₁ w₂ room full one two =
     ap records two
-    ∙ way-loaded n (s .z) (s .r) root ws 0 (omega (arith, room .roots)) (omega (arith, room .fetched)) w₀ (room .slots) w₁ one
+    ∙ way-loaded n (s .z) (s .r) root ws 0 (omega (arith, room .sizes .roots)) (omega (arith, room .fetched)) w₀ (room .slots) w₁ one
 
 pub path-shown :
     (s : Sizes) (root : List Record) (ws w₀ b₀ w₁ b₁ : List ℕ) → PathRoom s ws w₀ b₀ → records w₁ ≡ wayShown (s .h) (s .z) (s .r) root ws 0
@@ -51,11 +51,11 @@ siblings-shown s skip ws b₀ b₁ b₂ room one moved two =
     let k = siblings-length (s .z) ws (2 * s .h) skip (s .h - 1) in
     let l : length b₁ ≡ length b₀ = ap length one ∙ length-written b₀ 0 dummy in
     let long : length b₁ ≡ 4 * (1 + length (siblingsShown (s .z) ws (2 * s .h) skip (s .h - 1))) =
-    omega (arith, l, k, room .siblings, room .some) in
+    omega (arith, l, k, room .siblings, room .sizes .height .0) in
     let first : take 1 (records b₁) ≡ dummy ∷ [] =
     ap (λ (b : List ℕ). take 1 (records b)) one
-    ∙ ap (take 1) (records-written b₀ 0 dummy (omega (arith, room .siblings, room .some)))
-    ∙ take-suc-set (records b₀) 0 dummy (omega (arith, records-count b₀, room .siblings, room .some)) in
+    ∙ ap (take 1) (records-written b₀ 0 dummy (omega (arith, room .siblings, room .sizes .height .0)))
+    ∙ take-suc-set (records b₀) 0 dummy (omega (arith, records-count b₀, room .siblings, room .sizes .height .0)) in
     record {
       siblings =
           ap records (rw n at (two .laid))

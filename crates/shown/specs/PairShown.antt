@@ -8,6 +8,7 @@ use Rattle.record.specs.declared.Record.{Record}
 use Rattle.record.specs.Standing.{dummy}
 use Rattle.record.specs.Words.{records}
 use Rattle.path.specs.declared.sizes.Sizes.{Sizes}
+use Rattle.path.specs.Cut.{Cut}
 use Rattle.path.specs.Layout.{recordWords}
 use Rattle.gather.specs.Shown.{siblingsShown, wayShown}
 
@@ -16,9 +17,7 @@ abbrev pub belowFirst : Sizes → List ℕ → ℕ → List Record
 belowFirst s ws skip = dummy ∷ siblingsShown (s .z) ws (2 * s .h) skip (s .h - 1)
 
 pub record SiblingRoom (s : Sizes) (skip : ℕ) (ws sibs : List ℕ) : Type 0 where
-  pub some : 1 ≤ s .h
-  pub height : s .h ≤ 16
-  pub width : s .z ≤ 5
+  pub sizes : Cut s
   pub siblings : length sibs ≡ 4 * s .h
   pub fetched : 4 * (2 * s .h * (s .z + 1) + skip + (s .h - 1)) ≤ length ws
 
@@ -34,10 +33,7 @@ pub record PairShown (s : Sizes) (root : List Record) (ws w one two all : List �
   pub counted : moved ≡ 2 * (s .h - 1) * recordWords
 
 pub record PairShownRoom (s : Sizes) (ws w one two all : List ℕ) : Type 0 where
-  pub some : 1 ≤ s .h
-  pub height : s .h ≤ 16
-  pub roots : s .r ≤ 64
-  pub width : s .z ≤ 5
+  pub sizes : Cut s
   pub ways : length w ≡ 4 * (s .r + s .z * s .h)
   pub ones : length one ≡ 4 * s .h
   pub twos : length two ≡ 4 * s .h

@@ -7,6 +7,7 @@ use lib.ListN.{length}
 use Rattle.record.specs.declared.Record.{Record}
 use Rattle.record.specs.Words.{records}
 use Rattle.path.specs.declared.sizes.Sizes.{Sizes}
+use Rattle.path.specs.Cut.{Cut}
 use Rattle.path.specs.Layout.{recordWords}
 use Rattle.gather.specs.Shown.{siblingsShown, wayShown}
 
@@ -18,8 +19,7 @@ pub record PathShown (s : Sizes) (root : List Record) (ws w sibs : List ℕ) (mo
 
 -- room for them: scratches just as long, and the fetched words
 pub record PathRoom (s : Sizes) (ws w sibs : List ℕ) : Type 0 where
-  pub roots : s .r ≤ 64
-  pub width : s .z ≤ 5
+  pub sizes : Cut s
   pub slots : length w ≡ 4 * (s .r + s .z * s .h)
   pub siblings : length sibs ≡ 4 * s .h
   pub fetched : 4 * (s .h * (s .z + 1) + s .h) ≤ length ws

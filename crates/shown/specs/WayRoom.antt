@@ -4,9 +4,9 @@ use mathlib.Core.List.{List}
 use mathlib.Core.Path.{_≡_}
 use lib.ListN.{length}
 use Rattle.path.specs.declared.sizes.Sizes.{Sizes}
+use Rattle.path.specs.Cut.{Cut}
 
 pub record WayRoom (s : Sizes) (n : ℕ) (ws w : List ℕ) : Type 0 where
-  pub roots : s .r ≤ 64
-  pub width : s .z ≤ 5
+  pub sizes : Cut s
   pub slots : length w ≡ 4 * (s .r + s .z * n)
   pub fetched : 4 * (n * (s .z + 1)) ≤ length ws

@@ -6,11 +6,12 @@ ghost use Rattle.gather.specs.Shown.{wayShown};
 ghost use Rattle.shown.specs.WayRoom.{WayRoom};
 ghost use Rattle.shown.specs.PathShown.{PathRoom, PathShown};
 ghost use Rattle.shown.specs.PairShown.{SiblingRoom, SiblingsBelow, PairShownRoom, PairShown};
+use path::ROOT_PLACES;
 use path::Sizes;
 use record::Record;
 
 // The root's slots, and behind them those of the first n whole buckets of the fetched words.
-fn show_way(w: &mut [u64], root: [Record; 64], words: &[u64], n: usize, sizes: Sizes)
+fn show_way(w: &mut [u64], root: [Record; ROOT_PLACES], words: &[u64], n: usize, sizes: Sizes)
     requires { ⌜ WayRoom sizes n (now words) (now w) ⌝ }
     ensures { λ _. ⌜ records (now (w .exit)) ≡ wayShown n (sizes .z) (sizes .r) root (now (words .entry)) 0 ⌝ }
 {
@@ -24,7 +25,7 @@ fn show_way(w: &mut [u64], root: [Record; 64], words: &[u64], n: usize, sizes: S
 pub fn show_path(
     w: &mut [u64],
     sibs: &mut [u64],
-    root: [Record; 64],
+    root: [Record; ROOT_PLACES],
     words: &[u64],
     sizes: Sizes,
 ) -> u64
@@ -52,7 +53,7 @@ pub fn show_pair(
     one: &mut [u64],
     two: &mut [u64],
     all: &mut [u64],
-    root: [Record; 64],
+    root: [Record; ROOT_PLACES],
     words: &[u64],
     sizes: Sizes,
 ) -> u64

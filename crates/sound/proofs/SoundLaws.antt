@@ -29,13 +29,13 @@ sound-cases h next d b r s = elim (dichotomy (isDummy r)) [
 ]
 
 -- a clause that holds of all levels holds of each
-module _ (h : ℕ) (q : Leaf) (shown : ℕ → Contents) (beside : ℕ → Record) (d : ℕ) (some : 1 ≤ d) (most : d ≤ h) where
-  pub bucket-sound-at : (next : Stamp) → pathSound h q shown beside next ≡ true
+module _ (h : ℕ) (q : Leaf) (d : ℕ) (some : 1 ≤ d) (most : d ≤ h) where
+  pub bucket-sound-at : (shown : ℕ → Contents) (next : Stamp) → pathSound h q shown next ≡ true
       → {x : Record} → List·Memᴰ x (shown d .least ∷ shown d .slots) → sound h next d (pathBucket h q d) x ≡ true
   unfolding pathSound
-  bucket-sound-at next s m = every-each _ (every-each _ s (level-in 1 h d some (omega arith))) m
+  bucket-sound-at shown next s m = every-each _ (every-each _ s (level-in 1 h d some (omega arith))) m
 
-  pub sibling-sound-at : (next : Stamp) (from : ℕ) → from ≤ d → siblingsSound h q shown beside next from ≡ true
+  pub sibling-sound-at : (beside : ℕ → Record) (next : Stamp) (from : ℕ) → from ≤ d → siblingsSound h q beside next from ≡ true
       → sound h next d (siblingOf (pathBucket h q d)) (beside d) ≡ true
   unfolding siblingsSound
-  sibling-sound-at next from l s = every-each _ s (level-in from (suc h - from) d l (omega arith))
+  sibling-sound-at beside next from l s = every-each _ s (level-in from (suc h - from) d l (omega arith))

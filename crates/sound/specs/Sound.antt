@@ -19,18 +19,17 @@ use Rattle.sound.specs.Fetched.{Fetched}
 unfoldable pub sound : ℕ → Stamp → ℕ → Bucket → Record → Bool
 sound h next d b r = isDummy r || (isProper (leavesOf h) next r && holds h (r .label) d b)
 
-module _ (h : ℕ) (q : Leaf) (shown : ℕ → Contents) (beside : ℕ → Record) where
-  -- every fetched slot and least record is sound; siblings are fetched from level `from` on
-  unfoldable pub pathSound : Stamp → Bool
-  pathSound next =
-      every (λ d. every (sound h next d (pathBucket h q d)) (shown d .least ∷ shown d .slots)) (upFrom 1 h)
+-- every fetched slot and least record is sound; siblings are fetched from level `from` on
+unfoldable pub pathSound : ℕ → Leaf → (ℕ → Contents) → Stamp → Bool
+pathSound h q shown next =
+    every (λ d. every (sound h next d (pathBucket h q d)) (shown d .least ∷ shown d .slots)) (upFrom 1 h)
 
-  unfoldable pub siblingsSound : Stamp → ℕ → Bool
-  siblingsSound next from =
-      every (λ d. sound h next d (siblingOf (pathBucket h q d)) (beside d)) (upFrom from (suc h - from))
+unfoldable pub siblingsSound : ℕ → Leaf → (ℕ → Record) → Stamp → ℕ → Bool
+siblingsSound h q beside next from =
+    every (λ d. sound h next d (siblingOf (pathBucket h q d)) (beside d)) (upFrom from (suc h - from))
 
 module _ (h : ℕ) (next : Stamp) (p : Fetched) where
   -- clause 1 for one path, whose siblings were fetched from level `from` on
   abbrev pub allSound : ℕ → Bool
   allSound from =
-      pathSound h (p .leaf) (p .shown) (p .beside) next && siblingsSound h (p .leaf) (p .shown) (p .beside) next from
+      pathSound h (p .leaf) (p .shown) next && siblingsSound h (p .leaf) (p .beside) next from

@@ -4,12 +4,10 @@
 // The checks are lent the part of the fetched words that holds the path's h whole buckets, and a scratch where the least
 // record of level d's sibling stands at place d - 1. Stands on `record`, `path` and the definitions of `gather`.
 ghost use mathlib.Core.Path.{_≡_};
-ghost use Prim.Native.Nat.{ℕ, _*_, _≤_, _<_, _^_};
+ghost use Prim.Native.Nat.{_*_, _≤_, _<_, _^_};
 ghost use lib.ListN.{length};
-ghost use Rattle.record.specs.declared.Record.{Record};
 ghost use Rattle.record.specs.Many.{every};
 ghost use Rattle.record.specs.Words.{records};
-ghost use Rattle.path.specs.Layout.{Contents};
 ghost use Rattle.sound.specs.Sound.{sound, pathSound, siblingsSound, allSound};
 ghost use Rattle.sound.specs.Fetched.{shownIn, besideIn, fetchedIn};
 ghost use Rattle.sound.specs.Room.{Room};
@@ -50,10 +48,10 @@ fn bucket_sound(part: &[u64], sizes: Sizes, next: Stamp, level: u64, bucket: Buc
     true
 }
 
-// The path's buckets, level by level. What stands beside the path is nothing to them.
+// The path's buckets, level by level.
 fn path_sound(path: &[u64], sizes: Sizes, leaf: Leaf, next: Stamp) -> bool
     requires { ⌜ Room sizes leaf (now path) ⌝ }
-    ensures { λ x. ⌜ ((beside : ℕ → Record) → x ≡ pathSound (sizes .h) leaf (shownIn (sizes .z) (now (path .entry))) beside next) ⌝ }
+    ensures { λ x. ⌜ x ≡ pathSound (sizes .h) leaf (shownIn (sizes .z) (now (path .entry))) next ⌝ }
 {
     let h = sizes.h;
     let z = sizes.z as usize;
@@ -72,10 +70,10 @@ fn path_sound(path: &[u64], sizes: Sizes, leaf: Leaf, next: Stamp) -> bool
     true
 }
 
-// The siblings' least records from a level on. What stands on the path is nothing to them.
+// The siblings' least records from a level on.
 fn siblings_sound(sibs: &[u64], sizes: Sizes, leaf: Leaf, next: Stamp, from: u64) -> bool
     requires { ⌜ (sizes .h ≤ 16) × ((leaf .0 < 2 ^ sizes .h) × ((1 ≤ from) × (4 * sizes .h ≤ length (now sibs)))) ⌝ }
-    ensures { λ x. ⌜ ((shown : ℕ → Contents) → x ≡ siblingsSound (sizes .h) leaf shown (besideIn (now (sibs .entry))) next from) ⌝ }
+    ensures { λ x. ⌜ x ≡ siblingsSound (sizes .h) leaf (besideIn (now (sibs .entry))) next from ⌝ }
 {
     let h = sizes.h;
     let mut level = from;

@@ -16,12 +16,12 @@ use Rattle.path.specs.Path.{pathBucket, upFrom}
 use Rattle.path.specs.Layout.{Contents, treeWords}
 use Rattle.lists.specs.BucketList.{pairList}
 use Rattle.way.specs.Evict.{seek}
-use Rattle.least.specs.Least.{mendedAt}
+use Rattle.least.specs.Least.{slotsAt, rootSlots, mendedAt}
 use Rattle.gather.specs.Shown.{slotsShown, wayShown}
 use Rattle.gather.proofs.ShownLaws.{way-length, slots-length}
 use Rattle.mend.specs.Mended.{pathWords}
-use Rattle.work.specs.PathWork.{slotsAfter, pathBuckets, rootAfter, leastAfter}
-use Rattle.pair.specs.PairWork.{seated, firstBuckets, secondWay, secondBeside, secondBuckets, firstSiblings, secondSiblings}
+use Rattle.work.specs.PathWork.{evicted, pathBuckets, leastAfter}
+use Rattle.pair.specs.PairWork.{seated, firstAfter, secondAfter, secondBeside, firstSiblings, secondSiblings}
 use Rattle.work.specs.RemovalWork.{rooted}
 use Rattle.copies.specs.Copy.{fetched, stored}
 use Rattle.mend.proofs.PartLaws.{path-words-append}
@@ -101,28 +101,41 @@ module _ (s : Sizes) (first second : Leaf) (p : Halves (s .h) first second) (new
   abbrev way₂ : List Record
   way₂ = wayOf (s .h) second T₁
 
+  -- both ways once they are evicted: as the words show them, and the second as the Tree has it
+  abbrev after₁ : List Record
+  after₁ = firstAfter s first new way
+
+  abbrev after₂ : List Record
+  after₂ = secondAfter s first second new way slots₂
+
+  abbrev left₂ : List Record
+  left₂ = evicted s second way₂
+
+  abbrev buckets : List Contents
+  buckets = pathBuckets s first b₁ after₁ ++ pathBuckets s second (secondBeside s first b₁ after₁ b₂) after₂
+
   seat-length : length seat ≡ s .r + s .z * s .h
   seat-length = seated-length (s .r) new (wayOf (s .h) first T) ∙ first-way-length
 
   way₂-length : length way₂ ≡ s .r + s .z * s .h
   way₂-length =
-      let n = root-after-length s first b₁ seat seat-length in
+      let n = root-after-length s first seat seat-length in
       let m = ap length (sym slots-are) ∙ slots-length (s .z) ws (s .h) (s .h) given in
       ap length (sym (second-way s first second p new T b₁ b₂ same₁ same₂))
-      ∙ length-append (rootAfter s first b₁ seat) (belowOf (s .h) second T (s .h)) ∙ omega (arith, n, m)
+      ∙ length-append (rootSlots (s .r) (evicted s first seat)) (belowOf (s .h) second T (s .h)) ∙ omega (arith, n, m)
 
   -- what each path's buckets become
   abbrev f : ℕ → Contents
-  f = mendedAt (s .h) first (slotsAfter s first own₁ seat) own₁
+  f = mendedAt (s .h) first (slotsAt (s .r) (s .z) (evicted s first seat)) own₁
 
   abbrev g : ℕ → Contents
-  g = mendedAt (s .h) second (slotsAfter s second own₂ way₂) own₂
+  g = mendedAt (s .h) second (slotsAt (s .r) (s .z) left₂) own₂
 
   abbrev top : Contents
-  top = contents (leastAfter s second own₂ way₂) (rootAfter s second own₂ way₂)
+  top = contents (leastAfter s second own₂ left₂) (rootSlots (s .r) left₂)
 
   stored-both : (more : List ℕ)
-      → Alike (s .h) (treeOf (s .z) (rootAfter s second own₂ way₂) (leastAfter s second own₂ way₂)
+      → Alike (s .h) (treeOf (s .z) (rootSlots (s .r) left₂) (leastAfter s second own₂ left₂)
       (stored (s .z) (pairList (s .h) first second .whole)
       (pathWords (map f (upFrom 1 (s .h))) ++ (pathWords (map g (upFrom 1 (s .h))) ++ more)) tree))
       (inserted s first second new T)
@@ -130,8 +143,8 @@ module _ (s : Sizes) (first second : Leaf) (p : Halves (s .h) first second) (new
   stored-both more =
       let in₁ = first-inside (s .h) first second p in
       pair-stored (s .h) (s .z) first second p tree size f g
-      (λ d l m. slots-after-length s first own₁ seat seat-length d l (omega arith))
-      (λ d l m. slots-after-length s second own₂ way₂ way₂-length d l (omega arith)) more (take (s .r) places) _ least _
+      (λ d l m. slots-after-length s first seat seat-length d l (omega arith))
+      (λ d l m. slots-after-length s second way₂ way₂-length d l (omega arith)) more (take (s .r) places) _ least _
       (inserted s first second new T) (laid-root (s .h) second (p .most) g top T₁)
       (λ d l m. laid-off (s .h) second (p .most) g top T₁ (pathBucket (s .h) first d) (first-off (s .h) first second p d l m)
       ∙ laid-on (s .h) first in₁ f _ T d l m)
@@ -141,15 +154,13 @@ module _ (s : Sizes) (first second : Leaf) (p : Halves (s .h) first second) (new
   -- the words that finish leaves, stored: behind both paths' buckets any words may stand
   pub insertion-stored : (more : List ℕ)
       → Alike (s .h)
-      (treeOf (s .z) (take (s .r) (rooted (s .r)
-      (rootAfter s second (secondBeside s first second new b₁ b₂ way slots₂) (secondWay s first second new b₁ b₂ way slots₂)) places))
-      (leastAfter s second (secondBeside s first second new b₁ b₂ way slots₂) (secondWay s first second new b₁ b₂ way slots₂))
-      (stored (s .z) (pairList (s .h) first second .whole)
-      (pathWords (firstBuckets s first second new b₁ b₂ way slots₂ ++ secondBuckets s first second new b₁ b₂ way slots₂) ++ more) tree))
+      (treeOf (s .z) (take (s .r) (rooted (s .r) (rootSlots (s .r) after₂) places))
+      (leastAfter s second (secondBeside s first b₁ after₁ b₂) after₂)
+      (stored (s .z) (pairList (s .h) first second .whole) (pathWords buckets ++ more) tree))
       (inserted s first second new T)
   unfolding pathBuckets
   insertion-stored more =
-      let n = root-after-length s second own₂ way₂ way₂-length in
+      let n = root-after-length s second way₂ way₂-length in
       rw (
         way-is,
         slots-are,
@@ -164,8 +175,7 @@ module _ (s : Sizes) (first second : Leaf) (p : Halves (s .h) first second) (new
       (stored-both more)
 
   pub insertion-stored-length : (more : List ℕ)
-      → length (stored (s .z) (pairList (s .h) first second .whole)
-      (pathWords (firstBuckets s first second new b₁ b₂ way slots₂ ++ secondBuckets s first second new b₁ b₂ way slots₂) ++ more) tree)
+      → length (stored (s .z) (pairList (s .h) first second .whole) (pathWords buckets ++ more) tree)
       ≡ treeWords (s .h) (s .z)
   unfolding pathBuckets
   insertion-stored-length more =
@@ -178,8 +188,8 @@ module _ (s : Sizes) (first second : Leaf) (p : Halves (s .h) first second) (new
         append-assoc (pathWords (map f (upFrom 1 (s .h)))) _ more,
       )
       (pair-stored-length (s .h) (s .z) first second p tree size f g
-      (λ d l m. slots-after-length s first own₁ seat seat-length d l (omega arith))
-      (λ d l m. slots-after-length s second own₂ way₂ way₂-length d l (omega arith)) more)
+      (λ d l m. slots-after-length s first seat seat-length d l (omega arith))
+      (λ d l m. slots-after-length s second way₂ way₂-length d l (omega arith)) more)
 
-  pub last-way-length : length (secondWay s first second new b₁ b₂ way slots₂) ≡ s .r + s .z * s .h
+  pub last-way-length : length (rootSlots (s .r) after₁ ++ slots₂) ≡ s .r + s .z * s .h
   last-way-length = rw (way-is, slots-are) (ap length (second-way s first second p new T b₁ b₂ same₁ same₂) ∙ way₂-length)

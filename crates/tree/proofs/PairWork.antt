@@ -13,8 +13,9 @@ use Rattle.path.specs.declared.sizes.Sizes.{Sizes}
 use Rattle.path.specs.Path.{pathBucket}
 use Rattle.path.specs.Layout.{Contents}
 use Rattle.path.proofs.PathLaws.{path-root}
-use Rattle.work.specs.PathWork.{evicted, slotsAfter, pathBuckets, rootAfter, leastAfter}
-use Rattle.pair.specs.PairWork.{seated, firstBuckets, secondWay, topFirst, secondBeside, secondBuckets}
+use Rattle.least.specs.Least.{slotsAt, rootSlots}
+use Rattle.work.specs.PathWork.{evicted, pathBuckets, leastAfter}
+use Rattle.pair.specs.PairWork.{seated, firstAfter, secondAfter, topFirst, secondBeside}
 use Rattle.work.proofs.BesideLaws.{kids-same, top-same, mended-same}
 use Rattle.tree.specs.Tree.{Tree, wayOf, slotsOn, besideOf}
 use Rattle.tree.specs.Work.{afterFirst}
@@ -43,16 +44,22 @@ module _ (s : Sizes) (first second : Leaf) (p : Halves (s .h) first second) (new
   abbrev own₁ : ℕ → Record
   own₁ = besideOf (s .h) first T
 
-  lays : Lays (s .h) first (bucketAfter s first own₁ (evicted s first own₁ seat)) T T₁
+  lays : Lays (s .h) first (bucketAfter s first own₁ (evicted s first seat)) T T₁
   lays = worked-lays s first (first-inside (s .h) first second p) seat T
 
-  pub first-buckets : firstBuckets s first second new b₁ b₂ way slots₂ ≡ pathBuckets s first own₁ seat
+  abbrev after₁ : List Record
+  after₁ = firstAfter s first new way
+
+  abbrev after₂ : List Record
+  after₂ = secondAfter s first second new way slots₂
+
+  pub first-buckets : pathBuckets s first b₁ after₁ ≡ pathBuckets s first own₁ after₁
   unfolding pathBuckets
-  first-buckets = mended-same (s .h) first (slotsAfter s first own₁ seat) b₁ own₁ 2 same₁ (omega arith)
+  first-buckets = mended-same (s .h) first (slotsAt (s .r) (s .z) after₁) b₁ own₁ 2 same₁ (omega arith)
 
   -- the second way: what the first left in the root, and slots that it did not touch
-  root-left : slotsOn (s .h) second T₁ 0 ≡ rootAfter s first own₁ seat
-  unfolding rootAfter levelOf
+  root-left : slotsOn (s .h) second T₁ 0 ≡ rootSlots (s .r) after₁
+  unfolding levelOf
   root-left =
       ap (λ (b : Bucket). T₁ b .slots) (path-root (s .h) second (p .most) ∙ sym (path-root (s .h) first (first-inside (s .h) first second p)))
       ∙ ap (λ (c : Contents). c .slots) (lays .on 0 (omega arith))
@@ -65,19 +72,18 @@ module _ (s : Sizes) (first second : Leaf) (p : Halves (s .h) first second) (new
       ∙ ap (λ (c : Contents). belowOf (s .h) second T d ++ c .slots)
       (lays .off (pathBucket (s .h) second (suc d)) (second-off (s .h) first second p (suc d) (omega arith) l))
 
-  pub second-way : secondWay s first second new b₁ b₂ way slots₂ ≡ wayOf (s .h) second T₁
-  unfolding rootAfter
+  pub second-way : rootSlots (s .r) after₁ ++ slots₂ ≡ wayOf (s .h) second T₁
   second-way = sym (way-below (s .h) second T₁ ∙ rw (root-left, below-kept (s .h) (omega arith)))
 
   -- the siblings beside it
-  top-left : topFirst s first second new b₁ b₂ way slots₂ ≡ besideOf (s .h) second T₁ 1
+  top-left : topFirst s first b₁ after₁ ≡ besideOf (s .h) second T₁ 1
   unfolding levelOf
   top-left =
-      top-same (s .h) first (slotsAfter s first own₁ seat) b₁ own₁ 2 same₁ (omega arith) (p .high)
+      top-same (s .h) first (slotsAt (s .r) (s .z) after₁) b₁ own₁ 2 same₁ (omega arith) (p .high)
       ∙ ap (λ (c : Contents). c .least) (sym (lays .on 1 (p .high)))
       ∙ ap (λ (b : Bucket). T₁ b .least) (sym (second-sibling (s .h) first second p))
 
-  pub second-beside : (d : ℕ) → 1 ≤ d → d ≤ s .h → secondBeside s first second new b₁ b₂ way slots₂ d ≡ besideOf (s .h) second T₁ d
+  pub second-beside : (d : ℕ) → 1 ≤ d → d ≤ s .h → secondBeside s first b₁ after₁ b₂ d ≡ besideOf (s .h) second T₁ d
   second-beside d l m = elim (decLe 2 d) [
     | yes h ↦
         rw (ne-eqb d 1 (omega arith))
@@ -85,28 +91,25 @@ module _ (s : Sizes) (first second : Leaf) (p : Halves (s .h) first second) (new
     | no h ↦ let e : d ≡ 1 = omega arith in rw e top-left
   ]
 
-  abbrev slotsLeft : ℕ → List Record
-  slotsLeft = slotsAfter s second (besideOf (s .h) second T₁) (wayOf (s .h) second T₁)
+  abbrev left₂ : List Record
+  left₂ = evicted s second (wayOf (s .h) second T₁)
 
-  pub second-buckets : secondBuckets s first second new b₁ b₂ way slots₂ ≡ pathBuckets s second (besideOf (s .h) second T₁) (wayOf (s .h) second T₁)
+  pub second-buckets : pathBuckets s second (secondBeside s first b₁ after₁ b₂) after₂ ≡ pathBuckets s second (besideOf (s .h) second T₁) left₂
   unfolding pathBuckets
   second-buckets =
-      rw second-way (mended-same (s .h) second slotsLeft (secondBeside s first second new b₁ b₂ way slots₂)
+      rw second-way (mended-same (s .h) second (slotsAt (s .r) (s .z) left₂) (secondBeside s first b₁ after₁ b₂)
       (besideOf (s .h) second T₁) 1 second-beside (omega arith))
 
   pub second-root :
-      rootAfter s second (secondBeside s first second new b₁ b₂ way slots₂) (secondWay s first second new b₁ b₂ way slots₂)
-      ≡ rootAfter s second (besideOf (s .h) second T₁) (wayOf (s .h) second T₁)
-  unfolding rootAfter
+      rootSlots (s .r) after₂ ≡ rootSlots (s .r) left₂
   second-root = rw second-way
 
   pub second-least :
-      leastAfter s second (secondBeside s first second new b₁ b₂ way slots₂) (secondWay s first second new b₁ b₂ way slots₂)
-      ≡ leastAfter s second (besideOf (s .h) second T₁) (wayOf (s .h) second T₁)
+      leastAfter s second (secondBeside s first b₁ after₁ b₂) after₂ ≡ leastAfter s second (besideOf (s .h) second T₁) left₂
   unfolding leastAfter
   second-least =
       rw (
         second-way,
-        kids-same (s .h) second slotsLeft (secondBeside s first second new b₁ b₂ way slots₂)
+        kids-same (s .h) second (slotsAt (s .r) (s .z) left₂) (secondBeside s first b₁ after₁ b₂)
             (besideOf (s .h) second T₁) 1 second-beside (s .h) (omega arith),
       )

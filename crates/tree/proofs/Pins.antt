@@ -16,7 +16,7 @@ use Rattle.path.specs.Layout.{freshTree}
 use Rattle.way.specs.Evict.{seek, fits, movedTo, pull, pulls, evictUp, evict}
 use Rattle.least.specs.Least.{slotsAt, inOrder, kids}
 use Rattle.clearing.specs.Removal.{named, removed}
-use Rattle.work.specs.PathWork.{pathBuckets, rootAfter, leastAfter}
+use Rattle.work.specs.PathWork.{pathBuckets, leastAfter}
 use Rattle.pair.specs.PairWork.{seated}
 use Rattle.tree.specs.Tree.{Tree, joined, put, putAll, treeOf}
 use Rattle.tree.specs.Work.{worked, taken, inserted}
@@ -52,5 +52,5 @@ sample :
     × (two root .least ≡ record4 5 50 0 1)
     × (three (bucket 4) .slots ≡ seven ∷ [])
 unfolding same isDummy noLater smallerBy smallestBy records wordsOf pathBucket holds siblingOf upFrom path seek fits movedTo pull
-    pulls evictUp evict slotsAt inOrder kids named removed pathBuckets rootAfter leastAfter seated joined put putAll worked
+    pulls evictUp evict slotsAt inOrder kids named removed pathBuckets leastAfter seated joined put putAll worked
 sample = (refl, refl, refl)

@@ -16,7 +16,7 @@ use Rattle.path.specs.Sizes.{leavesOf}
 use Rattle.path.specs.Layout.{treeWords}
 use Rattle.lists.specs.BucketList.{pathList}
 use Rattle.lists.proofs.ListLaws.{length-path}
-use Rattle.least.specs.Least.{mendedAt}
+use Rattle.least.specs.Least.{slotsAt, rootSlots, mendedAt}
 use Rattle.way.proofs.EvictLaws.{length-evict}
 use Rattle.least.proofs.LeastLaws.{length-slots}
 use Rattle.clearing.specs.Removal.{removed}
@@ -24,8 +24,8 @@ use Rattle.gather.specs.Shown.{siblingsShown, wayShown}
 use Rattle.clearing.proofs.RemovalLaws.{removed-length}
 use Rattle.gather.proofs.ShownLaws.{way-length}
 use Rattle.mend.specs.Mended.{pathWords, besideAt}
-use Rattle.work.specs.PathWork.{evicted, slotsAfter, pathBuckets, rootAfter, leastAfter}
-use Rattle.work.specs.RemovalWork.{removalBuckets, removalRoot, removalLeast, rooted}
+use Rattle.work.specs.PathWork.{evicted, pathBuckets, leastAfter}
+use Rattle.work.specs.RemovalWork.{removalAfter, removalRoot, removalBuckets, removalLeast, rooted}
 use Rattle.work.proofs.BesideLaws.{kids-same, mended-same}
 use Rattle.copies.specs.Copy.{fetched, stored}
 use Rattle.tree.specs.Tree.{Tree, Alike, wayOf, besideOf, treeOf}
@@ -35,16 +35,15 @@ use Rattle.tree.proofs.PathFetch.{path-wholes, path-leasts, path-way, p
 use Rattle.tree.proofs.PathStore.{path-stored, path-stored-length}
 
 -- ---- lengths after an eviction
-module _ (s : Sizes) (q : Leaf) (beside : ℕ → Record) (w : List Record) (long : length w ≡ s .r + s .z * s .h) where
-  pub evicted-length : length (evicted s q beside w) ≡ s .r + s .z * s .h
+module _ (s : Sizes) (q : Leaf) (w : List Record) (long : length w ≡ s .r + s .z * s .h) where
+  pub evicted-length : length (evicted s q w) ≡ s .r + s .z * s .h
   evicted-length = length-evict (s .h) (s .z) (s .r) q w ∙ long
 
-  pub slots-after-length : (d : ℕ) → 1 ≤ d → d ≤ s .h → length (slotsAfter s q beside w d) ≡ s .z
+  pub slots-after-length : (d : ℕ) → 1 ≤ d → d ≤ s .h → length (slotsAt (s .r) (s .z) (evicted s q w) d) ≡ s .z
   slots-after-length d l m =
       length-slots (s .r) (s .z) _ d l (omega (arith, evicted-length, mul-le-mul-left {m = d} {n = s .h} (s .z) m))
 
-  pub root-after-length : length (rootAfter s q beside w) ≡ s .r
-  unfolding rootAfter
+  pub root-after-length : length (rootSlots (s .r) (evicted s q w)) ≡ s .r
   root-after-length = length-take-le (s .r) _ (omega (arith, evicted-length))
 
 module _ (s : Sizes) (q : Leaf) (inside : q .0 < leavesOf (s .h)) (root : List Record) (full : s .r ≤ length root) (least : Record)
@@ -81,20 +80,19 @@ module _ (s : Sizes) (q : Leaf) (inside : q .0 < leavesOf (s .h)) (root : List R
   tree-way-length = ap length (sym way-is) ∙ way-length (s .h) (s .z) (s .r) root ws 0 full given
 
   module _ (f : Record → Bool) where
-    pub removal-buckets : removalBuckets s q f sibs way ≡ pathBuckets s q (besideOf (s .h) q T) (removed f (wayOf (s .h) q T))
+    pub removal-buckets : removalBuckets s q f sibs way ≡ pathBuckets s q (besideOf (s .h) q T) (removalAfter s q f (wayOf (s .h) q T))
     unfolding pathBuckets
-    removal-buckets = rw way-is (mended-same (s .h) q (slotsAfter s q (besideOf (s .h) q T) (removed f (wayOf (s .h) q T))) (besideAt sibs)
+    removal-buckets = rw way-is (mended-same (s .h) q (slotsAt (s .r) (s .z) (removalAfter s q f (wayOf (s .h) q T))) (besideAt sibs)
         (besideOf (s .h) q T) 1 beside-is (omega arith))
 
-    pub removal-root : removalRoot s q f sibs way ≡ rootAfter s q (besideOf (s .h) q T) (removed f (wayOf (s .h) q T))
-    unfolding rootAfter
+    pub removal-root : removalRoot s q f way ≡ removalRoot s q f (wayOf (s .h) q T)
     removal-root = rw way-is
 
-    pub removal-least : removalLeast s q f sibs way ≡ leastAfter s q (besideOf (s .h) q T) (removed f (wayOf (s .h) q T))
+    pub removal-least : removalLeast s q f sibs way ≡ leastAfter s q (besideOf (s .h) q T) (removalAfter s q f (wayOf (s .h) q T))
     unfolding leastAfter
     removal-least = rw (
       way-is,
-      kids-same (s .h) q (slotsAfter s q (besideOf (s .h) q T) (removed f (wayOf (s .h) q T))) (besideAt sibs)
+      kids-same (s .h) q (slotsAt (s .r) (s .z) (removalAfter s q f (wayOf (s .h) q T))) (besideAt sibs)
           (besideOf (s .h) q T) 1 beside-is (s .h) (omega arith),
     )
 
@@ -108,20 +106,20 @@ module _ (s : Sizes) (q : Leaf) (inside : q .0 < leavesOf (s .h)) (root : List R
     -- the words that finish leaves, stored: behind the path's buckets any words may stand
     pub removal-stored : (more : List ℕ)
         → Alike (s .h)
-        (treeOf (s .z) (take (s .r) (rooted (s .r) (removalRoot s q f sibs way) root)) (removalLeast s q f sibs way)
+        (treeOf (s .z) (take (s .r) (rooted (s .r) (removalRoot s q f way) root)) (removalLeast s q f sibs way)
         (stored (s .z) (pathList (s .h) q .whole) (pathWords (removalBuckets s q f sibs way) ++ more) tree))
         (taken s q f T)
     unfolding worked pathBuckets gone
     removal-stored more =
-        let n = root-after-length s q (besideOf (s .h) q T) gone gone-length in
+        let n = root-after-length s q gone gone-length in
         rw (removal-buckets, removal-root, removal-least, take-at _ (drop (s .r) root) (s .r) n)
-        (path-stored (s .h) (s .z) q inside tree size (mendedAt (s .h) q (slotsAfter s q (besideOf (s .h) q T) gone) (besideOf (s .h) q T))
-        (λ d l m. slots-after-length s q (besideOf (s .h) q T) gone gone-length d l (omega arith)) more _ _ _ _)
+        (path-stored (s .h) (s .z) q inside tree size (mendedAt (s .h) q (slotsAt (s .r) (s .z) (evicted s q gone)) (besideOf (s .h) q T))
+        (λ d l m. slots-after-length s q gone gone-length d l (omega arith)) more _ _ _ _)
 
     pub removal-stored-length : (more : List ℕ)
         → length (stored (s .z) (pathList (s .h) q .whole) (pathWords (removalBuckets s q f sibs way) ++ more) tree) ≡ treeWords (s .h) (s .z)
     unfolding pathBuckets gone
     removal-stored-length more =
         rw removal-buckets
-        (path-stored-length (s .h) (s .z) q inside tree size (mendedAt (s .h) q (slotsAfter s q (besideOf (s .h) q T) gone) (besideOf (s .h) q T))
-        (λ d l m. slots-after-length s q (besideOf (s .h) q T) gone gone-length d l (omega arith)) more)
+        (path-stored-length (s .h) (s .z) q inside tree size (mendedAt (s .h) q (slotsAt (s .r) (s .z) (evicted s q gone)) (besideOf (s .h) q T))
+        (λ d l m. slots-after-length s q gone gone-length d l (omega arith)) more)

@@ -13,7 +13,7 @@ use Rattle.path.specs.Path.{pathBucket}
 use Rattle.path.specs.Layout.{Contents}
 use Rattle.path.proofs.PathLaws.{path-root}
 use Rattle.least.specs.Least.{slotsAt, kids}
-use Rattle.work.specs.PathWork.{evicted, pathBuckets, rootAfter, leastAfter}
+use Rattle.work.specs.PathWork.{evicted, pathBuckets, leastAfter}
 use Rattle.tree.specs.Tree.{Tree, besideOf, contents}
 use Rattle.tree.specs.Work.{worked}
 use Rattle.tree.proofs.PathLaws.{Lays, laid-root, laid-on, laid-off}
@@ -27,11 +27,11 @@ bucketAfter s q beside after d =
 
 module _ (s : Sizes) (q : Leaf) (inside : q .0 < leavesOf (s .h)) (w : List Record) (T : Tree) where
   pub worked-lays :
-      Lays (s .h) q (bucketAfter s q (besideOf (s .h) q T) (evicted s q (besideOf (s .h) q T) w)) T (worked s q w T)
-  unfolding worked pathBuckets leastAfter rootAfter levelOf
+      Lays (s .h) q (bucketAfter s q (besideOf (s .h) q T) (evicted s q w)) T (worked s q w T)
+  unfolding worked pathBuckets leastAfter levelOf
   worked-lays = record { on = on; off = laid-off (s .h) q inside _ _ T }
     where
       on : (d : ℕ) → d ≤ s .h
-          → worked s q w T (pathBucket (s .h) q d) ≡ bucketAfter s q (besideOf (s .h) q T) (evicted s q (besideOf (s .h) q T) w) d
+          → worked s q w T (pathBucket (s .h) q d) ≡ bucketAfter s q (besideOf (s .h) q T) (evicted s q w) d
       on zero l = let e : s .h - 0 ≡ s .h = omega arith in rw (path-root (s .h) q inside, e) (laid-root (s .h) q inside _ _ T)
       on (suc d) l = laid-on (s .h) q inside _ _ T (suc d) (omega arith) l

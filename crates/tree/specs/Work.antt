@@ -5,8 +5,9 @@ use mathlib.Core.List.{List}
 use Rattle.record.specs.declared.Leaf.{Leaf}
 use Rattle.record.specs.declared.Record.{Record}
 use Rattle.path.specs.declared.sizes.Sizes.{Sizes}
+use Rattle.least.specs.Least.{rootSlots}
 use Rattle.clearing.specs.Removal.{removed}
-use Rattle.work.specs.PathWork.{pathBuckets, rootAfter, leastAfter}
+use Rattle.work.specs.PathWork.{evicted, pathBuckets, leastAfter}
 use Rattle.pair.specs.PairWork.{seated}
 use Rattle.tree.specs.Tree.{Tree, wayOf, besideOf, contents, laidBack}
 
@@ -14,8 +15,8 @@ module _ (s : Sizes) (q : Leaf) where
   -- a path worked on, when its way has become w: evicted, least records worked out, "the root last"
   unfoldable pub worked : List Record → Tree → Tree
   worked w T =
-      laidBack (s .h) q (pathBuckets s q (besideOf (s .h) q T) w)
-      (contents (leastAfter s q (besideOf (s .h) q T) w) (rootAfter s q (besideOf (s .h) q T) w)) T
+      laidBack (s .h) q (pathBuckets s q (besideOf (s .h) q T) (evicted s q w))
+      (contents (leastAfter s q (besideOf (s .h) q T) (evicted s q w)) (rootSlots (s .r) (evicted s q w))) T
 
   -- ExtractMin and Delete: the record that passes becomes the dummy, or none does
   abbrev pub taken : (Record → Bool) → Tree → Tree

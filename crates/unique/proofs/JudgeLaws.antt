@@ -18,6 +18,8 @@ use Rattle.root.proofs.slots_fine.Kinds as slots-fine-kinds
 use Rattle.root.proofs.slots_fine.Reads as slots-fine
 use Rattle.root.proofs.all_dummies.Kinds as all-dummies-kinds
 use Rattle.root.proofs.all_dummies.Reads as all-dummies
+use Rattle.root.proofs.lowest_dummy.Kinds as lowest-dummy-kinds
+use Rattle.root.proofs.lowest_dummy.Reads as lowest-dummy
 use Rattle.root.proofs.all_real.Kinds as all-real-kinds
 use Rattle.root.proofs.all_real.Reads as all-real
 use Rattle.judge.proofs.are_parts_bad.Kinds as are-parts-bad-kinds
@@ -92,6 +94,11 @@ one-slots-fine =
 pub one-all-dummies : Determines 1 all-dummies-kinds.ps all-dummies-kinds.r all-dummies.Asked all-dummies.Learnt
 one-all-dummies =
     one-answer 1 all-dummies-kinds.ps all-dummies-kinds.r all-dummies.Asked all-dummies.Learnt _ _
+    (λ κs a ok x xs f p. (p, refl))
+
+pub one-lowest-dummy : Determines 1 lowest-dummy-kinds.ps lowest-dummy-kinds.r lowest-dummy.Asked lowest-dummy.Learnt
+one-lowest-dummy =
+    one-answer 1 lowest-dummy-kinds.ps lowest-dummy-kinds.r lowest-dummy.Asked lowest-dummy.Learnt _ _
     (λ κs a ok x xs f p. (p, refl))
 
 pub one-all-real : Determines 1 all-real-kinds.ps all-real-kinds.r all-real.Asked all-real.Learnt

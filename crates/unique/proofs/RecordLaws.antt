@@ -22,6 +22,8 @@ use Rattle.record.proofs.Record.read.Kinds as read-kinds
 use Rattle.record.proofs.Record.read.Reads as read
 use Rattle.record.proofs.Record.write.Kinds as write-kinds
 use Rattle.record.proofs.Record.write.Reads as write
+use Rattle.record.proofs.copy_words.Kinds as copy-words-kinds
+use Rattle.record.proofs.copy_words.Reads as copy-words
 use Rattle.path.proofs.leaves.Kinds as leaves-kinds
 use Rattle.path.proofs.leaves.Reads as leaves
 use Rattle.path.proofs.tree_in_range.Kinds as tree-in-range-kinds
@@ -94,6 +96,11 @@ pub one-write : Determines 1 write-kinds.ps write-kinds.r write.Asked write.Lear
 one-write =
     one-answer 1 write-kinds.ps write-kinds.r write.Asked write.Learnt _ _
     (λ κs a ok x xs f p. (refl, λ i. (tt, (p i, (tt, tt)))))
+
+pub one-copy-words : Determines 2 copy-words-kinds.ps copy-words-kinds.r copy-words.Asked copy-words.Learnt
+one-copy-words =
+    one-answer 2 copy-words-kinds.ps copy-words-kinds.r copy-words.Asked copy-words.Learnt _ _
+    (λ κs a ok x xs f p. (refl, λ i. (p i, (tt, (tt, (tt, (tt, tt)))))))
 
 pub one-leaves : Determines 0 leaves-kinds.ps leaves-kinds.r leaves.Asked leaves.Learnt
 one-leaves =

@@ -2,24 +2,29 @@
 -- of them changes how long a way is. Assumes nothing.
 use Prim.Native.Nat.{ℕ, zero, suc, _+_, _*_, _-_, _/_, _^_, _≤_, _<_}
 use mathlib.Core.Bool.{Bool, true, false, cond, not, _&&_, and-false}
-use mathlib.Core.List.{List}
+use mathlib.Core.List.{List, []}
 use mathlib.Core.Path.{_≡_, refl, sym, ap, _∙_, fun-ext}
 use native.Mathlib.Nat.{mul-le-mul-left}
 use native.Mathlib.Numerals.{add-one}
 use native.Mathlib.Omega.{arith}
 use lib.Dec.{eqb, ltb}
-use lib.ListN.{length, set, getD, drop, length-set}
+use lib.ListN.{length, set, getD, drop, length-set, drop-of-length-le}
 use borrow.Author.Tests.{lt-ltb, le-ltb, eq-eqb, ne-eqb}
 use Rattle.record.specs.declared.Leaf.{Leaf}
 use Rattle.record.specs.declared.Record.{Record}
 use Rattle.record.specs.Standing.{dummy, isDummy}
 use Rattle.record.specs.Words.{recordAt, written, records}
-use Rattle.record.proofs.WordsLaws.{records-next, length-written, records-at, records-written}
+use Rattle.record.proofs.WordsLaws.{records-count, records-next, length-written, records-at, records-written}
 use Rattle.path.proofs.PathLaws.{holds-by-shift}
 use Rattle.way.specs.Evict.{seek, fits, movedTo, pull, pulls, evictUp, evict}
 use Rattle.way.proofs.WayLaws.{level-before}
 
 -- ---- a search among the first n places, of which the first i have been passed
+seek-none : (f : Record → Bool) (n : ℕ) → seek f n [] ≡ n
+unfolding seek
+seek-none f zero = refl
+seek-none f (suc n) = refl
+
 abbrev pub seekFrom : (Record → Bool) → ℕ → List ℕ → ℕ → ℕ
 seekFrom f n w i = i + seek f (n - i) (drop i (records w))
 
@@ -32,7 +37,11 @@ module _ (f : Record → Bool) (n : ℕ) (w : List ℕ) where
     unfolding seek
     seek-ends l = let e : n - i ≡ 0 = omega arith in rw e (omega arith)
 
-    module _ (l : i < n) (h : 4 * n ≤ length w) where
+    -- past the last record there is none to find
+    pub seek-past : i ≤ n → length w / 4 ≤ i → seekFrom f n w i ≡ n
+    seek-past l h = rw (drop-of-length-le (records w) {i = i} (omega (arith, records-count w)), seek-none f (n - i)) (omega arith)
+
+    module _ (l : i < n) (h : 4 * i + 4 ≤ length w) where
       next :
           seek f (n - i) (drop i (records w))
           ≡ cond (f (recordAt w i)) 0 (suc (seek f (n - (i + 1)) (drop (i + 1) (records w))))

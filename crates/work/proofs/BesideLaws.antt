@@ -9,8 +9,8 @@ use Rattle.record.specs.Order.{leastOf}
 use Rattle.path.specs.declared.sizes.Sizes.{Sizes}
 use Rattle.path.proofs.LevelLaws.{map-same}
 use Rattle.path.specs.Layout.{Contents}
-use Rattle.least.specs.Least.{kids, mendedAt, mended}
-use Rattle.work.specs.PathWork.{slotsAfter, pathBuckets, leastAfter, PathWorked}
+use Rattle.least.specs.Least.{slotsAt, kids, mendedAt, mended}
+use Rattle.work.specs.PathWork.{evicted, pathBuckets, leastAfter, PathWorked}
 
 module _ (h : ℕ) (q : Leaf) (slots : ℕ → List Record) (b b′ : ℕ → Record) (from : ℕ) (same : (d : ℕ) → from ≤ d → d ≤ h → b d ≡ b′ d) where
   pub kids-same : (j : ℕ) → j + from ≤ suc h → kids h q slots b j ≡ kids h q slots b′ j
@@ -38,6 +38,6 @@ unfolding pathBuckets leastAfter
 worked-same s q b b′ way w path x same p =
     record {
       after = p .after;
-      buckets = p .buckets ∙ rw (mended-same (s .h) q (slotsAfter s q b way) b b′ 1 same (omega arith));
-      least = p .least ∙ rw (kids-same (s .h) q (slotsAfter s q b way) b b′ 1 same (s .h) (omega arith));
+      buckets = p .buckets ∙ rw (mended-same (s .h) q (slotsAt (s .r) (s .z) (evicted s q way)) b b′ 1 same (omega arith));
+      least = p .least ∙ rw (kids-same (s .h) q (slotsAt (s .r) (s .z) (evicted s q way)) b b′ 1 same (s .h) (omega arith));
     }

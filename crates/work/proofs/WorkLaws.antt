@@ -15,7 +15,7 @@ use Rattle.mend.specs.Mended.{besideAt, Mended}
 use Rattle.clearing.specs.Removal.{Cleared}
 use Rattle.clearing.proofs.RemovalLaws.{cleared-records}
 use Rattle.work.specs.declared.removal.Removed.{Removed}
-use Rattle.work.specs.PathWork.{pathBuckets, rootAfter, leastAfter, PathWorked}
+use Rattle.work.specs.PathWork.{pathBuckets, leastAfter, PathWorked}
 use Rattle.work.specs.RemovalWork.{PathRemoved}
 
 pub path-worked :
@@ -36,7 +36,6 @@ pub path-removed :
     → Cleared f w₀ w₁ (out .found) → PathWorked s q (besideAt sibs) (records w₁) w₂ path (out .least)
     → out .root ≡ take (s .r) (records w₂) ++ drop (s .r) slots
     → PathRemoved s q f sibs (records w₀) slots path out
-unfolding rootAfter
 path-removed s q f sibs slots w₀ w₁ w₂ path out c p e =
     let p′ = rw (cleared-records f w₀ w₁ (out .found) c) at p in
     record {

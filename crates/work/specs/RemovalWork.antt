@@ -10,22 +10,27 @@ use Rattle.record.specs.declared.Leaf.{Leaf}
 use Rattle.record.specs.declared.Record.{Record}
 use Rattle.path.specs.declared.sizes.Sizes.{Sizes}
 use Rattle.path.specs.Layout.{Contents}
+use Rattle.least.specs.Least.{rootSlots}
 use Rattle.clearing.specs.Removal.{found, removed}
 use Rattle.mend.specs.Mended.{pathWords, besideAt}
 use Rattle.work.specs.declared.removal.Removed.{Removed}
-use Rattle.work.specs.PathWork.{pathBuckets, rootAfter, leastAfter}
+use Rattle.work.specs.PathWork.{evicted, pathBuckets, leastAfter}
 
--- the work of ExtractMin and Delete on a way: the record that passes is replaced by the dummy, or none is, and the path is
--- worked on. `sibs` are the siblings' least records from level 1 on.
-module _ (s : Sizes) (q : Leaf) (f : Record → Bool) (sibs way : List Record) where
-  abbrev pub removalBuckets : List Contents
-  removalBuckets = pathBuckets s q (besideAt sibs) (removed f way)
+-- the record that passes is replaced by the dummy, or none is, and the path is evicted
+module _ (s : Sizes) (q : Leaf) (f : Record → Bool) (way : List Record) where
+  abbrev pub removalAfter : List Record
+  removalAfter = evicted s q (removed f way)
 
   abbrev pub removalRoot : List Record
-  removalRoot = rootAfter s q (besideAt sibs) (removed f way)
+  removalRoot = rootSlots (s .r) removalAfter
+
+-- then its least records are worked out: `sibs` are the siblings' from level 1 on
+module _ (s : Sizes) (q : Leaf) (f : Record → Bool) (sibs way : List Record) where
+  abbrev pub removalBuckets : List Contents
+  removalBuckets = pathBuckets s q (besideAt sibs) (removalAfter s q f way)
 
   abbrev pub removalLeast : Record
-  removalLeast = leastAfter s q (besideAt sibs) (removed f way)
+  removalLeast = leastAfter s q (besideAt sibs) (removalAfter s q f way)
 
 -- the card's root of 64 places, its first R replaced
 abbrev pub rooted : ℕ → List Record → List Record → List Record
@@ -34,6 +39,6 @@ rooted r slots root = slots ++ drop r root
 pub record PathRemoved
     (s : Sizes) (q : Leaf) (f : Record → Bool) (sibs way slots : List Record) (path : List ℕ) (out : Removed) : Type 0 where
   pub finds : out .found ≡ found f way
-  pub root : out .root ≡ rooted (s .r) (removalRoot s q f sibs way) slots
+  pub root : out .root ≡ rooted (s .r) (removalRoot s q f way) slots
   pub least : out .least ≡ removalLeast s q f sibs way
   pub buckets : path ≡ pathWords (removalBuckets s q f sibs way)

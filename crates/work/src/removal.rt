@@ -6,6 +6,7 @@ ghost use Rattle.clearing.specs.Removal.{named};
 ghost use Rattle.mend.specs.Mended.{MendRoom};
 ghost use Rattle.work.specs.RemovalWork.{PathRemoved};
 use crate::work_path;
+use path::ROOT_PLACES;
 use path::Sizes;
 use record::Leaf;
 use record::Record;
@@ -13,7 +14,7 @@ use record::Stamp;
 
 // What a removal makes of the card's root, and whether the record was there.
 pub struct Removed {
-    pub root: [Record; 64],
+    pub root: [Record; ROOT_PLACES],
     pub least: Record,
     pub found: bool,
 }
@@ -23,7 +24,7 @@ pub fn remove_path(
     w: &mut [u64],
     sibs: &[u64],
     path: &mut [u64],
-    root: [Record; 64],
+    root: [Record; ROOT_PLACES],
     sizes: Sizes,
     label: Leaf,
     stamp: Stamp,

@@ -5,15 +5,15 @@ ghost use lib.ListN.{length};
 ghost use Rattle.writing.specs.Stored.{StoreRoom, Stored};
 use path::Sizes;
 use record::RECORD_WORDS;
+use record::copy_words;
 
 // For crates above: the bucket writer. A part of the words, one bucket long, takes the words of another just as long.
 pub fn write_part(part: &mut [u64], from: &[u64])
     requires { ⌜ length (now part) ≡ length (now from) ⌝ }
     ensures { λ _. ⌜ now (part .exit) ≡ now (from .entry) ⌝ }
 {
-    for k in 0..part.len() {
-        part[k] = from[k];
-    }
+    let n = part.len();
+    copy_words(part, 0, from, 0, n);
 }
 
 // For crates above: the prepared buckets of a path are written, each into its part of the fetched words, and the words

@@ -41,8 +41,8 @@ shared-slice-read-bucket-start c = search needs
 bucket-start-requires : tie.Need-bucket-start-requires Inv-loop μ-loop
 bucket-start-requires c κs = omega (arith, stands (c .before))
 
-copy-requires : tie.Need-copy-requires Inv-loop μ-loop
-copy-requires c κs =
+copy-words-requires : tie.Need-copy-words-requires Inv-loop μ-loop
+copy-words-requires c κs =
     let s = c .before .before .before .before .before .before .before .before .before .args in (
       rw (fetching-room _ _ _ _ (c .before .before .before .before .before .before .before .before .before .pre .0) (c .before .before .before .before .before .before .before .before .before .pre .1) _ _ _ (c .before .before .before .before .before .loop .inv)) (fits (c .before .before .before)),
       omega (arith, stands (c .before .before .before), part-most (s .z) (s .whole) (c .before .before .before .before .before .loop .i)),
@@ -59,7 +59,7 @@ loop-less c = search needs
 
 loop-again : tie.Need-loop-again Inv-loop μ-loop
 loop-again c =
-    rw (c .before .before .copy .ensures, c .before .before .before .before .before .before .part-words .ensures)
+    rw (c .before .before .copy-words .ensures, c .before .before .before .before .before .before .part-words .ensures)
     (fetching-turns _ _ _ _ (c .before .before .before .before .before .before .before .before .before .before .before .before .pre .0) (c .before .before .before .before .before .before .before .before .before .before .before .before .pre .1) _ _ _ (c .before .before .before .before .before .before .before .before .loop .inv) (c .before .before .before .before .before .before .before .loop-test .taken) _ (c .before .before .before .before .bucket-start .ensures))
 
 same-length : tie.Need-same-length Inv-loop μ-loop
@@ -81,7 +81,7 @@ fetch-listed-spec =
     mul-bucket-start
     shared-slice-read-bucket-start
     bucket-start-requires
-    copy-requires
+    copy-words-requires
     add-at
     add-i
     loop-less

@@ -33,8 +33,8 @@ shared-slice-read-bucket-start c = search needs
 bucket-start-requires : tie.Need-bucket-start-requires Inv-loop μ-loop
 bucket-start-requires c κs = omega (arith, covered-at (c .before .before .before .before .before .before .before .pre .0) _ (c .before .loop-test .taken))
 
-copy-requires : tie.Need-copy-requires Inv-loop μ-loop
-copy-requires c κs = (
+copy-words-requires : tie.Need-copy-words-requires Inv-loop μ-loop
+copy-words-requires c κs = (
   rw (c .before .bucket-start .ensures, c .before .before .before .before .before .bucket-words .ensures)
       (storing-within _ _ (c .before .before .before .before .before .before .before .before .before .pre .0) (c .before .before .before .before .before .before .before .before .before .pre .1) _ _ _ (c .before .before .before .before .loop .inv) (c .before .before .before .loop-test .taken)),
   fits (c .before .before .before),
@@ -51,7 +51,7 @@ loop-less c = search needs
 
 loop-again : tie.Need-loop-again Inv-loop μ-loop
 loop-again c =
-    rw (c .before .before .copy .ensures, c .before .before .before .before .before .before .before .before .bucket-words .ensures)
+    rw (c .before .before .copy-words .ensures, c .before .before .before .before .before .before .before .before .bucket-words .ensures)
     (storing-turns _ _ (c .before .before .before .before .before .before .before .before .before .before .before .before .pre .0) (c .before .before .before .before .before .before .before .before .before .before .before .before .pre .1) _ _ _ (c .before .before .before .before .before .before .before .loop .inv) (c .before .before .before .before .before .before .loop-test .taken) _ (c .before .before .before .before .bucket-start .ensures))
 
 same-length : tie.Need-same-length Inv-loop μ-loop
@@ -71,7 +71,7 @@ store-listed-spec =
     mul-bucket-start
     shared-slice-read-bucket-start
     bucket-start-requires
-    copy-requires
+    copy-words-requires
     add-at
     add-i
     loop-less

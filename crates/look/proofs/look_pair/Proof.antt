@@ -35,7 +35,7 @@ part-sibs-end c = search needs
 show-pair-requires : tie.Need-show-pair-requires
 show-pair-requires c κs =
     let p = c .before .before .before .before .before .before .before .before .before .before .pre in
-    record { some = p .sizes .height .0; height = p .sizes .height .1; roots = p .sizes .roots; width = p .sizes .width; ways = p .slots; ones = p .siblings; twos = search needs; alls = search needs; fetched = p .fetched }
+    record { sizes = record { height = p .sizes .height; width = p .sizes .width; roots = p .sizes .roots }; ways = p .slots; ones = p .siblings; twos = search needs; alls = search needs; fetched = p .fetched }
 
 path-words-requires : tie.Need-path-words-requires
 path-words-requires c κs =

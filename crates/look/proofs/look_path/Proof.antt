@@ -8,7 +8,7 @@ use Rattle.look.proofs.look_path.Tie as tie
 show-path-requires : tie.Need-show-path-requires
 show-path-requires c κs =
     let p = c .before .before .before .before .before .pre in
-    record { roots = p .sizes .roots; width = p .sizes .width; slots = p .slots; siblings = p .siblings; fetched = p .fetched }
+    record { sizes = record { height = p .sizes .height; width = p .sizes .width; roots = p .sizes .roots }; slots = p .slots; siblings = p .siblings; fetched = p .fetched }
 
 path-words-requires : tie.Need-path-words-requires
 path-words-requires c κs =

@@ -19,27 +19,27 @@ mul-load-siblings : tie.Need-mul-load-siblings
 mul-load-siblings c = search needs
 
 sub-load-siblings : tie.Need-sub-load-siblings
-sub-load-siblings c = search needs
+sub-load-siblings c = omega (arith, c .before .before .before .before .before .before .before .before .before .before .before .before .before .before .before .before .before .before .before .before .before .before .pre .one .sizes .height)
 
 load-siblings-requires : tie.Need-load-siblings-requires
-load-siblings-requires c κs = search needs
+load-siblings-requires c κs =
+    let cut = c .before .before .before .before .before .before .before .before .before .before .before .before .before .before .before .before .before .before .before .before .before .before .pre .one .sizes in
+    search needs
 
 read-requires : tie.Need-read-requires
 read-requires c κs =
     let s = c .before .before .before .before .before .before .before .before .before .before .before .before .before .before .before .before .before .before .before .before .before .before .before .before .before .before .args in
-    omega (arith, first-bucket (s .sizes .h) (s .sizes .z) (c .before .before .before .before .before .before .before .before .before .before .before .before .before .before .before .before .before .before .before .before .before .before .before .before .before .before .pre .some), c .before .before .before .before .before .before .before .before .before .before .before .before .before .work-path .kept .1 .1 .0, c .before .before .before .before .before .before .before .before .before .before .before .before .before .before .before .before .before .before .before .before .before .before .before .before .before .before .pre .one .buckets)
+    omega (arith, first-bucket (s .sizes .h) (s .sizes .z) (c .before .before .before .before .before .before .before .before .before .before .before .before .before .before .before .before .before .before .before .before .before .before .before .before .before .before .pre .one .sizes .height .0), c .before .before .before .before .before .before .before .before .before .before .before .before .before .work-path .kept .1 .1 .0, c .before .before .before .before .before .before .before .before .before .before .before .before .before .before .before .before .before .before .before .before .before .before .before .before .before .before .pre .one .buckets)
 
 write-requires : tie.Need-write-requires
 write-requires c κs =
-    omega (arith, c .before .before .before .before .before .load-siblings .kept .0, c .before .before .before .before .before .before .before .before .before .before .before .before .before .before .before .before .before .before .before .before .before .before .before .before .before .before .before .before .pre .one .siblings, c .before .before .before .before .before .before .before .before .before .before .before .before .before .before .before .before .before .before .before .before .before .before .before .before .before .before .before .before .pre .some)
+    omega (arith, c .before .before .before .before .before .load-siblings .kept .0, c .before .before .before .before .before .before .before .before .before .before .before .before .before .before .before .before .before .before .before .before .before .before .before .before .before .before .before .before .pre .one .siblings, c .before .before .before .before .before .before .before .before .before .before .before .before .before .before .before .before .before .before .before .before .before .before .before .before .before .before .before .before .pre .one .sizes .height .0)
 
 work-path-requires-2 : tie.Need-work-path-requires-2
 work-path-requires-2 c κs =
     let two = c .before .before .before .before .before .before .before .before .before .before .before .before .before .before .before .before .before .before .before .before .before .before .before .before .before .before .before .before .before .before .before .before .before .before .pre .two in
     record {
-      height = two .height;
-      width = two .width;
-      roots = two .roots;
+      sizes = two .sizes;
       leaf = two .leaf;
       buckets = two .buckets;
       slots = c .before .before .before .before .before .before .before .before .before .before .before .before .before .before .before .load-path .kept .0 ∙ c .before .before .before .before .before .before .before .before .before .before .before .before .before .before .before .before .before .before .before .before .before .work-path .kept .0 ∙ c .before .before .before .before .before .before .before .before .before .before .before .before .before .before .before .before .before .before .before .before .before .before .before .before .before .before .before .seat .kept .0 ∙ two .slots;
@@ -65,8 +65,8 @@ returns c =
     let s = c .before .before .before .before .before .before .before .before .before .before .before .before .before .before .before .before .before .before .before .before .before .before .before .before .before .before .before .before .before .before .before .before .before .before .before .before .before .before .before .args in
     let room = c .before .before .before .before .before .before .before .before .before .before .before .before .before .before .before .before .before .before .before .before .before .before .before .before .before .before .before .before .before .before .before .before .before .before .before .before .before .before .before .pre in
     let top : c .before .before .before .before .before .before .before .before .before .before .before .before .read .result ≡ recordAt (c .before .before .before .before .before .before .before .before .before .before .before .before .before .before .before .before .before .before .before .before .before .before .before .before .before .before .work-path .last .1 .1 .0) 0 = c .before .before .before .before .before .before .before .before .before .before .before .before .read .ensures in
-    pair-worked (s .sizes) (s .first) (s .second) (s .new) (s .w .now) (s .beside .now) (s .words .now) (room .some) (room .one .siblings)
-    _ _ _ (c .before .before .before .before .before .before .before .before .before .before .before .before .before .before .before .before .load-siblings .ensures .laid) (c .before .before .before .before .before .before .before .before .before .before .write .ensures) (top ∙ top-read (s .sizes) (s .first) (s .second) (s .new) (s .w .now) (s .beside .now) (s .words .now) (room .some) (room .one .siblings) _ _ _ _ (c .before .before .before .before .before .before .before .before .before .before .before .before .before .before .before .before .before .before .before .before .before .before .before .before .before .before .before .before .before .before .before .before .seat .ensures) (c .before .before .before .before .before .before .before .before .before .before .before .before .before .before .before .before .before .before .before .before .before .before .before .before .before .before .work-path .ensures))
+    pair-worked (s .sizes) (s .first) (s .second) (s .new) (s .w .now) (s .beside .now) (s .words .now) (room .one .sizes .height .0) (room .one .siblings)
+    _ _ _ (c .before .before .before .before .before .before .before .before .before .before .before .before .before .before .before .before .load-siblings .ensures .laid) (c .before .before .before .before .before .before .before .before .before .before .write .ensures) (top ∙ top-read (s .sizes) (s .first) (s .second) (s .new) (s .w .now) (s .beside .now) (s .words .now) (room .one .sizes .height .0) (room .one .siblings) _ _ _ _ (c .before .before .before .before .before .before .before .before .before .before .before .before .before .before .before .before .before .before .before .before .before .before .before .before .before .before .before .before .before .before .before .before .seat .ensures) (c .before .before .before .before .before .before .before .before .before .before .before .before .before .before .before .before .before .before .before .before .before .before .before .before .before .before .work-path .ensures))
     _ _ _ _ _ _ _ _ (c .before .before .before .before .before .before .before .before .before .before .before .before .before .before .before .before .before .before .before .before .before .before .before .before .before .before .work-path .kept .0 ∙ c .before .before .before .before .before .before .before .before .before .before .before .before .before .before .before .before .before .before .before .before .before .before .before .before .before .before .before .before .before .before .before .before .seat .kept .0 ∙ room .one .slots) (omega (arith, room .fetched))
     (c .before .before .before .before .before .before .before .before .before .before .before .before .before .before .before .before .before .before .before .before .before .before .before .before .before .before .before .before .before .before .before .before .seat .ensures) (c .before .before .before .before .before .before .before .before .before .before .before .before .before .before .before .before .before .before .before .before .before .before .before .before .before .before .work-path .ensures) (c .before .before .before .before .before .before .before .before .before .before .before .before .before .before .before .before .before .before .before .before .load-path .ensures) (c .before .before .before .before .work-path2 .ensures)
 

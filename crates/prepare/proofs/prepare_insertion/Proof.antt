@@ -45,7 +45,7 @@ returns c =
 work-pair-requires : tie.Need-work-pair-requires
 work-pair-requires c κs =
     let (room, (lower, upper)) = c .before .before .before .before .before .before .before .before .before .before .before .before .before .before .before .before .before .pre in
-    record { some = room .parts .sizes .height .0; one = record { height = room .parts .sizes .height .1; width = room .parts .sizes .width; roots = room .parts .sizes .roots; leaf = room .lower; buckets = lower; slots = c .before .before .before .before .before .before .before .before .look-pair .kept .1 .0 ∙ search needs; siblings = search needs }; two = record { height = room .parts .sizes .height .1; width = room .parts .sizes .width; roots = room .parts .sizes .roots; leaf = room .upper; buckets = upper; slots = c .before .before .before .before .before .before .before .before .look-pair .kept .1 .0 ∙ search needs; siblings = search needs }; fetched = room .fetched }
+    record { one = record { sizes = record { height = room .parts .sizes .height; width = room .parts .sizes .width; roots = room .parts .sizes .roots }; leaf = room .lower; buckets = lower; slots = c .before .before .before .before .before .before .before .before .look-pair .kept .1 .0 ∙ search needs; siblings = search needs }; two = record { sizes = record { height = room .parts .sizes .height; width = room .parts .sizes .width; roots = room .parts .sizes .roots }; leaf = room .upper; buckets = upper; slots = c .before .before .before .before .before .before .before .before .look-pair .kept .1 .0 ∙ search needs; siblings = search needs }; fetched = room .fetched }
 
 save-root-requires : tie.Need-save-root-requires
 save-root-requires c κs =

@@ -46,7 +46,7 @@ returns c =
 remove-path-requires : tie.Need-remove-path-requires
 remove-path-requires c κs =
     let (room, path) = c .before .before .before .before .before .before .before .before .before .before .before .before .before .before .before .pre in
-    record { height = room .parts .sizes .height .1; width = room .parts .sizes .width; roots = room .parts .sizes .roots; leaf = room .leaf; buckets = path; slots = c .before .before .before .before .before .before .before .look-path .kept .1 .0 ∙ search needs; siblings = search needs }
+    record { sizes = record { height = room .parts .sizes .height; width = room .parts .sizes .width; roots = room .parts .sizes .roots }; leaf = room .leaf; buckets = path; slots = c .before .before .before .before .before .before .before .look-path .kept .1 .0 ∙ search needs; siblings = search needs }
 
 live-after-requires : tie.Need-live-after-requires
 live-after-requires c κs = search needs

@@ -1,11 +1,7 @@
 use borrow.Author.Needs.{needs}
-use native.Mathlib.Omega.{arith}
 use mathlib.Core.Path.{sym, _∙_}
 use borrow.Author.Tests.{eq-eqb, ne-eqb, le-leb, lt-leb, lt-ltb, le-ltb}
-use lib.Seq.{length-take-le}
-use Rattle.record.proofs.WordsLaws.{records-take}
 use Rattle.refusal.specs.Refusal.{firstGiven}
-use Rattle.root.specs.Root.{rootFull}
 use Rattle.request.specs.Tables.{insertRows}
 use Rattle.request.proofs.why_insert.Statement.{statement}
 use Rattle.request.proofs.why_insert.Tie as tie
@@ -46,30 +42,18 @@ unfolding firstGiven insertRows
 returns-7 c =
     rw (ne-eqb _ _ (c .before .before .before .before .before .before .before .before .before .before .before .if1 .left), ne-eqb _ _ (c .before .before .before .before .before .before .before .before .before .before .if2 .left), ← c .before .before .before .before .before .before .before .before .before .leaves .ensures, lt-leb _ _ (c .before .before .before .before .before .before .before .if3 .left), lt-leb _ _ (c .before .before .before .before .before .if4 .left), le-ltb _ _ (c .before .before .before .if5 .left), lt-leb _ _ (c .before .if6 .left), eq-eqb _ _ (c .if7 .taken))
 
-mul-end : tie.Need-mul-end
-mul-end c = search needs
-
-slice-aggregate-all-real : tie.Need-slice-aggregate-all-real
-slice-aggregate-all-real c =
-    sym (length-take-le _ (c .before .before .before .before .before .before .before .before .before .before .before .before .before .before .before .args .root .now) (omega arith))
-
 all-real-requires : tie.Need-all-real-requires
-all-real-requires c κs =
-    length-take-le _ (c .before .before .before .before .before .before .before .before .before .before .before .before .before .before .before .args .root .now) (omega arith)
+all-real-requires c κs = search needs
 
 returns-8 : tie.Need-returns-8
-unfolding firstGiven insertRows rootFull
+unfolding firstGiven insertRows
 returns-8 c =
-    let s = c .before .before .before .before .before .before .before .before .before .before .before .before .before .before .before .before .before .args in
-    let e = rw (records-take (s .root .now) (s .sizes .r)) at (c .before .all-real .ensures) in
-    rw (ne-eqb _ _ (c .before .before .before .before .before .before .before .before .before .before .before .before .before .before .if1 .left), ne-eqb _ _ (c .before .before .before .before .before .before .before .before .before .before .before .before .before .if2 .left), ← c .before .before .before .before .before .before .before .before .before .before .before .before .leaves .ensures, lt-leb _ _ (c .before .before .before .before .before .before .before .before .before .before .if3 .left), lt-leb _ _ (c .before .before .before .before .before .before .before .before .if4 .left), le-ltb _ _ (c .before .before .before .before .before .before .if5 .left), lt-leb _ _ (c .before .before .before .before .if6 .left), ne-eqb _ _ (c .before .before .before .if7 .left), sym e ∙ c .if8 .taken)
+    rw (ne-eqb _ _ (c .before .before .before .before .before .before .before .before .before .before .before .before .before .if1 .left), ne-eqb _ _ (c .before .before .before .before .before .before .before .before .before .before .before .before .if2 .left), ← c .before .before .before .before .before .before .before .before .before .before .before .leaves .ensures, lt-leb _ _ (c .before .before .before .before .before .before .before .before .before .if3 .left), lt-leb _ _ (c .before .before .before .before .before .before .before .if4 .left), le-ltb _ _ (c .before .before .before .before .before .if5 .left), lt-leb _ _ (c .before .before .before .if6 .left), ne-eqb _ _ (c .before .before .if7 .left), sym (c .before .all-real .ensures) ∙ c .if8 .taken)
 
 returns-9 : tie.Need-returns-9
-unfolding firstGiven insertRows rootFull
+unfolding firstGiven insertRows
 returns-9 c =
-    let s = c .before .before .before .before .before .before .before .before .before .before .before .before .before .before .before .before .before .args in
-    let e = rw (records-take (s .root .now) (s .sizes .r)) at (c .before .all-real .ensures) in
-    rw (ne-eqb _ _ (c .before .before .before .before .before .before .before .before .before .before .before .before .before .before .if1 .left), ne-eqb _ _ (c .before .before .before .before .before .before .before .before .before .before .before .before .before .if2 .left), ← c .before .before .before .before .before .before .before .before .before .before .before .before .leaves .ensures, lt-leb _ _ (c .before .before .before .before .before .before .before .before .before .before .if3 .left), lt-leb _ _ (c .before .before .before .before .before .before .before .before .if4 .left), le-ltb _ _ (c .before .before .before .before .before .before .if5 .left), lt-leb _ _ (c .before .before .before .before .if6 .left), ne-eqb _ _ (c .before .before .before .if7 .left), sym e ∙ c .if8 .left)
+    rw (ne-eqb _ _ (c .before .before .before .before .before .before .before .before .before .before .before .before .before .if1 .left), ne-eqb _ _ (c .before .before .before .before .before .before .before .before .before .before .before .before .if2 .left), ← c .before .before .before .before .before .before .before .before .before .before .before .leaves .ensures, lt-leb _ _ (c .before .before .before .before .before .before .before .before .before .if3 .left), lt-leb _ _ (c .before .before .before .before .before .before .before .if4 .left), le-ltb _ _ (c .before .before .before .before .before .if5 .left), lt-leb _ _ (c .before .before .before .if6 .left), ne-eqb _ _ (c .before .before .if7 .left), sym (c .before .all-real .ensures) ∙ c .if8 .left)
 
 pub why-insert-spec : {M : Type 1} → statement M
 why-insert-spec =
@@ -83,8 +67,6 @@ why-insert-spec =
     returns-5
     returns-6
     returns-7
-    mul-end
-    slice-aggregate-all-real
     all-real-requires
     returns-8
     returns-9)

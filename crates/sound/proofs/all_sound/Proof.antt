@@ -1,6 +1,5 @@
 -- `all_sound` meets its contract. Assumes nothing.
 use borrow.Author.Needs.{needs}
-use Rattle.sound.specs.Fetched.{shownIn, besideIn}
 use Rattle.sound.proofs.Checking.{passes, refuses}
 use Rattle.sound.proofs.all_sound.Statement.{statement}
 use Rattle.sound.proofs.all_sound.Tie as tie
@@ -10,16 +9,14 @@ path-sound-requires c κs = search needs
 
 returns : tie.Need-returns
 returns c =
-    let s = c .before .before .before .before .args in
-    rw (refuses (c .before .path-sound .ensures (besideIn (s .sibs .now))) (c .if1 .taken))
+    rw (refuses (c .before .path-sound .ensures) (c .if1 .taken))
 
 siblings-sound-requires : tie.Need-siblings-sound-requires
 siblings-sound-requires c κs = search needs
 
 returns-2 : tie.Need-returns-2
 returns-2 c =
-    let s = c .before .before .before .before .before .args in
-    rw (passes (c .before .before .path-sound .ensures (besideIn (s .sibs .now))) (c .before .if1 .left)) (c .siblings-sound .ensures (shownIn (s .sizes .z) (s .path .now)))
+    rw (passes (c .before .before .path-sound .ensures) (c .before .if1 .left)) (c .siblings-sound .ensures)
 
 pub all-sound-spec : {M : Type 1} → statement M
 all-sound-spec = tie.close (tie.spec path-sound-requires returns siblings-sound-requires returns-2)

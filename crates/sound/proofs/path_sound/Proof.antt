@@ -58,7 +58,7 @@ returns : tie.Need-returns Inv-loop μ-loop
 unfolding pathSound
 returns c =
     let t = rw (c .before .before .before .bucket-at .ensures, bucket-shown (c .before .before .before .before .before .loop .inv .0) (c .before .before .before .before .loop-test .taken)) at (refuses (c .before .bucket-sound .ensures) (c .if1 .taken)) in
-    λ beside. passed-fails _ _ _ _ (c .before .before .before .before .before .loop .inv .1) (c .before .before .before .before .loop-test .taken) t ∙ from-one _ _
+    passed-fails _ _ _ _ (c .before .before .before .before .before .loop .inv .1) (c .before .before .before .before .loop-test .taken) t ∙ from-one _ _
 
 add-level : tie.Need-add-level Inv-loop μ-loop
 add-level c = search needs
@@ -74,7 +74,7 @@ loop-again c =
 returns-2 : tie.Need-returns-2 Inv-loop μ-loop
 unfolding pathSound
 returns-2 c =
-    λ beside. passed-ends _ _ _ _ (c .before .loop .inv .1) (c .loop-test .left) ∙ from-one _ _
+    passed-ends _ _ _ _ (c .before .loop .inv .1) (c .loop-test .left) ∙ from-one _ _
 
 pub path-sound-spec : {M : Type 1} → statement M
 path-sound-spec =

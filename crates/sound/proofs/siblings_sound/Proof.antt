@@ -42,7 +42,7 @@ returns c =
     let s = c .before .before .before .before .before .before .before .before .args in
     let k = records-at (s .sibs .now) (c .before .before .before .before .before .before .loop .level - 1) dummy (omega arith) in
     let t = rw (c .before .before .read .ensures, ← k, c .before .before .before .sibling .ensures, c .before .before .before .before .bucket-at .ensures) at (refuses (c .before .is-sound .ensures) (c .if1 .taken)) in
-    λ shown. passed-fails _ _ _ _ (c .before .before .before .before .before .before .loop .inv) (c .before .before .before .before .before .loop-test .taken) t
+    passed-fails _ _ _ _ (c .before .before .before .before .before .before .loop .inv) (c .before .before .before .before .before .loop-test .taken) t
 
 add-level : tie.Need-add-level Inv-loop μ-loop
 add-level c = search needs
@@ -59,7 +59,7 @@ loop-again c =
 
 returns-2 : tie.Need-returns-2 Inv-loop μ-loop
 unfolding siblingsSound
-returns-2 c = λ shown. passed-ends _ _ _ _ (c .before .loop .inv) (c .loop-test .left)
+returns-2 c = passed-ends _ _ _ _ (c .before .loop .inv) (c .loop-test .left)
 
 pub siblings-sound-spec : {M : Type 1} → statement M
 siblings-sound-spec =

@@ -86,7 +86,7 @@ read-requires c κs =
 bucket-at-requires : tie.Need-bucket-at-requires Inv-loop μ-loop
 bucket-at-requires c κs =
     let given = c .before .before .before .before .before .before .before .before .before .before .before .before .pre in
-    (given .height, (given .leaf, c .before .before .before .before .before .before .before .before .loop .inv .reached))
+    (given .sizes .height .1, (given .leaf, c .before .before .before .before .before .before .before .before .loop .inv .reached))
 
 kids-least-requires : tie.Need-kids-least-requires Inv-loop μ-loop
 kids-least-requires c κs = search needs

@@ -1,9 +1,9 @@
--- `copies::copy` meets its contract. The loop: `Pasting`. Assumes nothing.
+-- `copy_words` meets its contract. The loop: `Pasting`. Assumes nothing.
 use borrow.Author.Needs.{needs}
 use Prim.Native.Nat.{_-_}
 use Rattle.record.proofs.Pasting.{Pasting, pasting-starts, pasting-turns, pasting-ends}
-use Rattle.copies.proofs.copy.Statement.{statement}
-use Rattle.copies.proofs.copy.Tie as tie
+use Rattle.record.proofs.copying.copy_words.Statement.{statement}
+use Rattle.record.proofs.copying.copy_words.Tie as tie
 
 abbrev Inv-loop : tie.InvT-loop
 Inv-loop to₀ at from start n i₀ to i = Pasting to₀ from at start n to i
@@ -48,8 +48,8 @@ same-length c = c .before .loop .inv .room
 returns : tie.Need-returns Inv-loop μ-loop
 returns c = pasting-ends _ _ _ _ _ _ _ (c .before .loop .inv) (c .loop-test .left)
 
-pub copy-spec : {M : Type 1} → statement M
-copy-spec =
+pub copy-words-spec : {M : Type 1} → statement M
+copy-words-spec =
     tie.close
     (tie.spec
     Inv-loop
