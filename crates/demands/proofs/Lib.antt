@@ -1,4 +1,5 @@
 -- Laws of the demands that crates above cite.
+pub mod DearLaws
 pub mod SortedLaws
 pub mod QueueLaws
 pub mod AnswerLaws

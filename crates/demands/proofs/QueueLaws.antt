@@ -1,4 +1,4 @@
--- The plain queue and the live records: the first of the least keys is the smallest record, since stamps rise in the order of
+-- The plain queue and the live records: the first of the least events is the smallest record, since stamps rise in the order of
 -- insertion, and what a reference names in the queue is what label and stamp name among the records. Assumes nothing.
 use Prim.Native.Nat.{ℕ, suc, _<_}
 use mathlib.Core.Bool.{Bool, true, false, cond}
@@ -8,7 +8,7 @@ use mathlib.Core.Option.{some}
 use mathlib.Core.Path.{_≡_, refl, sym, ap, _∙_}
 use mathlib.Mathlib.Data.Bool.Basic.{dichotomy}
 use native.Mathlib.Omega.{arith}
-use lib.Dec.{ltb, leb}
+use lib.Dec.{ltb}
 use lib.ListN.{length, getD}
 use borrow.Author.Tests.{ltb-true, ltb-false, lt-ltb, le-ltb, eq-eqb, ne-eqb}
 use Rattle.record.specs.declared.Leaf.{Leaf}
@@ -17,23 +17,24 @@ use Rattle.record.specs.declared.Record.{Record}
 use Rattle.record.specs.Standing.{dummy, isDummy, isProper}
 use Rattle.record.specs.Order.{noLater, smallerBy, smallestBy, smallest}
 use Rattle.record.proofs.StandingLaws.{proper-true}
-use Rattle.record.proofs.OrderLaws.{order-by-key, smaller-first, smallest-in, proper-before-dummy}
+use Rattle.record.proofs.OrderLaws.{order-but-age, smaller-first, smallest-in, proper-before-dummy}
 use Rattle.way.specs.Evict.{seek}
 use Rattle.clearing.specs.Removal.{named, found}
 use Rattle.clearing.proofs.RemovalLaws.{found-passes, member-found}
 use Rattle.good.specs.Live.{without, Ascending, more}
 use Rattle.good.proofs.FitLaws.{at-place}
 use Rattle.good.proofs.PickLaws.{named-is}
-use Rattle.demands.specs.Queue.{Event, Reference, refersTo, leastEvent, sooner, has, takenOut}
+use Rattle.demands.specs.Queue.{Event, Reference, noDearer, refersTo, leastEvent, sooner, has, takenOut}
 use Rattle.demands.specs.Says.{refOf, eventOf}
+use Rattle.demands.proofs.DearLaws.{dear-numbers}
 use Rattle.demands.proofs.SortedLaws.{has-own, has-other, out-own, out-other, out-none}
 
 -- ---- the least
--- records go by key and then stamp, events by key alone (`order-by-key`)
-sooner-smaller : (x m : Record) → noLater x m ≡ leb (x .key) (m .key)
+-- where the order of two records is that of their events, so is the smaller
+sooner-smaller : (x m : Record) → noLater x m ≡ noDearer (eventOf x) (eventOf m)
     → sooner (eventOf x) (some (eventOf m)) ≡ some (eventOf (smallerBy noLater x m))
 unfolding smallerBy
-sooner-smaller x m e = rw e (elim (leb (x .key) (m .key)) as (λ b. some (cond b (eventOf x) (eventOf m)) ≡ some (eventOf (cond b x m))) [ true ↦ refl | false ↦ refl ])
+sooner-smaller x m e = rw e (elim (noDearer (eventOf x) (eventOf m)) as (λ b. some (cond b (eventOf x) (eventOf m)) ≡ some (eventOf (cond b x m))) [ true ↦ refl | false ↦ refl ])
 
 first-one : (x : Record) → leastEvent (map eventOf (x ∷ [])) ≡ some (eventOf x)
 unfolding leastEvent
@@ -65,7 +66,7 @@ module _ (leaves : ℕ) (next : Stamp) where
       let p = proper-true leaves next x (k x (List·Memᴰ·head refl)) in
       let h : (x .key < m .key) ⊎ (x .stamp .0 < m .stamp .0) =
       ⊎-elim (λ (e : m ≡ dummy). inl (rw e (p .key))) (λ (i : List·Memᴰ m (y ∷ ys)). inr (before m i)) (smallest-in noLater (y ∷ ys)) in
-      rw (smallest-more x (y ∷ ys)) (first-more x (map eventOf (y ∷ ys)) (eventOf m) below ∙ sooner-smaller x m (order-by-key x m h))
+      rw (smallest-more x (y ∷ ys)) (first-more x (map eventOf (y ∷ ys)) (eventOf m) below ∙ sooner-smaller x m (order-but-age x m h ∙ sym (dear-numbers (eventOf x) (eventOf m))))
 
 -- ---- by reference
 found-none : (f : Record → Bool) → found f [] ≡ false

@@ -1,4 +1,4 @@
--- The plain queue sorts: ExtractMin after ExtractMin answers the events by key, then by insertion. And what a Delete finds.
+-- The plain queue sorts: ExtractMin after ExtractMin answers the events by their order, then by insertion. And what a Delete finds.
 -- Assumes nothing.
 use Prim.Native.Nat.{ℕ, zero, suc, _≤_}
 use mathlib.Core.Bool.{true, false, and-eq-true-iff, true≢false}
@@ -10,9 +10,10 @@ use mathlib.Core.Path.{_≡_, refl, sym, ap, _∙_}
 use mathlib.Mathlib.Data.Bool.Basic.{dichotomy}
 use native.Mathlib.Omega.{arith}
 use lib.ListN.{length, take}
-use borrow.Author.Tests.{eqb-true, eq-eqb, leb-true, leb-false}
+use borrow.Author.Tests.{eqb-true, eq-eqb}
 use Rattle.demands.specs.Queue.{Reference, Event, Reply, refersTo, noDearer, sooner, leastEvent, has, takenOut, told}
 use Rattle.demands.specs.Sorted.{placed, sorted, extracts, Distinct, more, Rising, flat, rise}
+use Rattle.demands.proofs.DearLaws.{dear-total, dear-trans}
 
 -- ---- by reference
 module _ (r : Reference) (x : Event) where
@@ -204,15 +205,13 @@ placed-rises : (x : Event) (es : List Event) → Rising es → Rising (placed x 
 placed-rises x [] r = rw (placed-none x) (rise (λ y m. absurd (List·Memᴰ·not-nil m)) flat)
 placed-rises x (y ∷ ys) (rise first r) = elim (dichotomy (noDearer x y)) [
   | inr t ↦
-      let low = leb-true (x .key) (y .key) t in
       rw (placed-before x y ys t) (rise {x = x} {xs = y ∷ ys} (λ z m. elim m [
-        | List·Memᴰ·head e ↦ omega (arith, ap (λ (a : Event). a .key) e)
-        | List·Memᴰ·tail n ↦ omega (arith, first z n)
+        | List·Memᴰ·head e ↦ rw e t
+        | List·Memᴰ·tail n ↦ dear-trans x y z t (first z n)
       ]) (rise first r))
   | inl f ↦
-      let low = leb-false (x .key) (y .key) f in
       rw (placed-behind x y ys f) (rise {x = y} {xs = placed x ys} (λ z m.
-      ⊎-elim (λ (e : z ≡ x). omega (arith, ap (λ (a : Event). a .key) e)) (λ (n : List·Memᴰ z ys). first z n) (placed-in x ys m))
+      ⊎-elim (λ (e : z ≡ x). rw e (dear-total x y f)) (λ (n : List·Memᴰ z ys). first z n) (placed-in x ys m))
       (placed-rises x ys r))
 ]
 

@@ -19,7 +19,7 @@ pub record Event : Type 0 where
 abbrev pub refersTo : Reference → Event → Bool
 refersTo r e = eqb (e .ref .label) (r .label) && eqb (e .ref .stamp) (r .stamp)
 
--- the order of events: by key alone
+-- the order of events: by key alone. It is the queue's own, written out and not taken from the card's records.
 abbrev pub noDearer : Event → Event → Bool
 noDearer a b = leb (a .key) (b .key)
 

@@ -1,6 +1,6 @@
--- Events sorted by key, then by insertion. Assumes nothing.
-use Prim.Native.Nat.{ℕ, zero, suc, _≤_}
-use mathlib.Core.Bool.{cond}
+-- Events sorted by the queue's order, then by insertion. Assumes nothing.
+use Prim.Native.Nat.{ℕ, zero, suc}
+use mathlib.Core.Bool.{true, cond}
 use mathlib.Core.List.{List, [], _∷_, List·Memᴰ}
 use mathlib.Core.Path.{_≡_}
 use Rattle.demands.specs.Queue.{Event, Queue, Reply, noDearer, extractMin, reply, next}
@@ -27,4 +27,4 @@ pub data Distinct : List Event → Type 0 where
 -- no event is dearer than one behind it
 pub data Rising : List Event → Type 0 where
   flat : Rising []
-  rise : {x : Event} {xs : List Event} → ((y : Event) → List·Memᴰ y xs → x .key ≤ y .key) → Rising xs → Rising (x ∷ xs)
+  rise : {x : Event} {xs : List Event} → ((y : Event) → List·Memᴰ y xs → noDearer x y ≡ true) → Rising xs → Rising (x ∷ xs)

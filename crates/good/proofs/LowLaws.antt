@@ -168,5 +168,5 @@ module _ (s : Sizes) (next : Stamp) (T : Tree) (live : List Record) (g : Good s 
       same m = ⊎-elim
           (λ e. absurd (true≢false (sym (rw e at (smallest-low noLater ordered m)) ∙ dummy-after-proper _ next _ (live-proper _ m))))
           (λ i. stamp-names (test-once live (g .stamps)) m i (live-real _ m) (live-real _ i)
-          (ap (λ (a : Stamp). a .0) (ordered .tie (live-later _ i) (smallest-low noLater ordered m) .1)))
+          (ap (λ (a : Stamp). a .0) (ordered .tie (live-later _ i) (smallest-low noLater ordered m))))
           (smallest-in noLater live)

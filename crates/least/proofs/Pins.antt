@@ -40,6 +40,6 @@ unfolding leaf a c beside slotsAt kids inOrder smallestBy smallerBy noLater path
 roots-children = refl
 
 -- a tie takes the lower child: of buckets 2 and 3, whose least records differ in value alone, the one of bucket 2
-tie : smallest (inOrder (bucket 3) (record4 7 70 0 0) (record4 7 71 0 0)) ≡ record4 7 71 0 0
+tie : smallest (inOrder (bucket 3) (record4 7 70 0 0) (record4 7 74 0 0)) ≡ record4 7 74 0 0
 unfolding inOrder smallestBy smallerBy noLater
 tie = refl

@@ -1,0 +1,26 @@
+-- The queue's order of events: by some numbers, one after the other, and so total and transitive. No law below these
+-- unfolds it to numbers. Assumes nothing.
+use Prim.Native.Nat.{ℕ}
+use mathlib.Core.Bool.{true, false}
+use mathlib.Core.List.{List, [], _∷_}
+use mathlib.Core.Path.{_≡_, sym, _∙_}
+use Rattle.record.specs.Order.{lexically}
+use Rattle.record.proofs.LexicalLaws.{lex-total, lex-trans, leb-last}
+use Rattle.demands.specs.Queue.{Event, noDearer}
+
+-- its numbers, the last of which it compares by `leb`
+abbrev final : Event → ℕ
+final e = e .key
+
+abbrev pub numbers : List (Event → ℕ)
+numbers = final ∷ []
+
+pub dear-numbers : (a b : Event) → noDearer a b ≡ lexically numbers a b
+dear-numbers a b = rw (leb-last (final a) (final b))
+
+pub dear-total : (a b : Event) → noDearer a b ≡ false → noDearer b a ≡ true
+dear-total a b h = dear-numbers b a ∙ lex-total numbers a b (sym (dear-numbers a b) ∙ h)
+
+pub dear-trans : (a b c : Event) → noDearer a b ≡ true → noDearer b c ≡ true → noDearer a c ≡ true
+dear-trans a b c h k =
+    dear-numbers a c ∙ lex-trans numbers a b c (sym (dear-numbers a b) ∙ h) (sym (dear-numbers b c) ∙ k)
