@@ -3,9 +3,10 @@ use Prim.Native.Nat.{ℕ}
 use mathlib.Core.Bool.{Bool, cond}
 use mathlib.Core.List.{List, [], _∷_}
 use lib.ListN.{replicate}
-use Rattle.record.specs.declared.Record.{Record}
-use Rattle.request.specs.declared.Waiting.{Waiting}
-use Rattle.request.specs.declared.Waiting.the-variants.{Nothing, Insert, Extract, Delete}
+use Rattle.parts.specs.declared.Parts.{Parts}
+use Rattle.parts.specs.Parts.{nextStamp}
+use Rattle.request.specs.declared.Request.{Request}
+use Rattle.request.specs.declared.Request.the-variants.{Insert, Extract, Delete}
 use Rattle.answers.specs.declared.Answer.{Answer}
 use Rattle.answers.specs.declared.Answer.the-variants.{Started, Listed, Least, Withdrawn, Inserted, Extracted, Deleted, Refused}
 
@@ -36,9 +37,8 @@ valuesOf (Deleted found words) = 0 ∷ 0 ∷ 0 ∷ 0 ∷ cond found 1 0 ∷ word
 valuesOf (Refused number) = noValues
 
 -- what a finish answers, with the words moved: "It answers label and stamp." of Insert; ExtractMin the record that was the
--- root's least; Delete whether it was there. Where none waits it is never asked for: 3 is given before (`finishTable`).
-abbrev pub answerTo : Waiting → ℕ → Record → Bool → ℕ → Answer
-answerTo Nothing t least found moved = Refused 3
-answerTo (Insert key value label first second) t least found moved = Inserted label (record { 0 = t }) moved
-answerTo Extract t least found moved = Extracted least moved
-answerTo (Delete label stamp) t least found moved = Deleted found moved
+-- root's least; Delete whether it was there
+abbrev pub answerTo : Parts → Request → Bool → ℕ → Answer
+answerTo p (Insert key value label first second) found moved = Inserted label (nextStamp p) moved
+answerTo p Extract found moved = Extracted (p .least) moved
+answerTo p (Delete label stamp) found moved = Deleted found moved

@@ -1,12 +1,12 @@
 // What a call answers: document 01, "A request, step by step", and "Any refusal returns its number with every other field 0".
-// Each case has the paper's number and six values; one that does not apply is 0. Stands on `record`, `refusal`, `request`.
+// Each case has the paper's number and six values; one that does not apply is 0. Stands on `record`, `parts`, `request`.
 ghost use mathlib.Core.Path.{_≡_};
 ghost use Rattle.answers.specs.Answers.{numberOf, valuesOf, answerTo};
+use parts::Parts;
 use record::Leaf;
 use record::Record;
 use record::Stamp;
-use refusal::IDLE;
-use request::Waiting;
+use request::Request;
 
 pub enum Answer {
     Started,
@@ -89,31 +89,33 @@ pub fn values_of(said: Answer) -> [u64; 6]
     }
 }
 
-// For crates above: what a finish answers to the request that waited, where `least` was the root's least record.
-pub fn answer_to(waiting: Waiting, t: u64, least: Record, found: bool, moved: u64) -> Answer
-    ensures { λ a. ⌜ a ≡ answerTo waiting t least found moved ⌝ }
+// For crates above: what a finish answers to the request that waited on a card of these parts.
+pub fn answer_to(parts: Parts, request: Request, found: bool, moved: u64) -> Answer
+    ensures { λ a. ⌜ a ≡ answerTo parts request found moved ⌝ }
 {
-    match waiting {
-        Waiting::Nothing => Answer::Refused(IDLE),
-        Waiting::Insert {
+    match request {
+        Request::Insert {
             key: _,
             value: _,
             label,
             first: _,
             second: _,
         } => {
-            let stamp = Stamp(t);
+            let stamp = Stamp(parts.t);
             Answer::Inserted {
                 label: label,
                 stamp: stamp,
                 words: moved,
             }
         }
-        Waiting::Extract => Answer::Extracted {
-            event: least,
-            words: moved,
-        },
-        Waiting::Delete { label: _, stamp: _ } => Answer::Deleted {
+        Request::Extract => {
+            let event = parts.least;
+            Answer::Extracted {
+                event: event,
+                words: moved,
+            }
+        }
+        Request::Delete { label: _, stamp: _ } => Answer::Deleted {
             found: found,
             words: moved,
         },

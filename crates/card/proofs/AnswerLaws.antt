@@ -16,6 +16,14 @@ module _ (k : Card) (number : ℕ) (done : Done) where
   unfolding orRefused
   is-done h e = record { whole = sym (left-done number _ _ h); numbered = e ∙ sym h; valued = sym (left-done number _ _ h) }
 
+-- told by the number that the checks gave
+module _ (k : Card) (n number : ℕ) (done : Done) (e : n ≡ number) where
+  pub told-refused : (n ≡ 0 → ⊥) → Answered k number done (refused k n)
+  told-refused h = rw (← e) (is-refused k n done h)
+
+  pub told-done : n ≡ 0 → numberOf (done .answer) ≡ 0 → Answered k number done done
+  told-done z = is-done k number done (sym e ∙ z)
+
 -- the number that a call answers is the refusal's
 pub number-given : (k : Card) (number : ℕ) (done : Done) → numberOf (done .answer) ≡ 0 → numberOf (orRefused k number done .answer) ≡ number
 unfolding orRefused

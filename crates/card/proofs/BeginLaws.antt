@@ -15,63 +15,57 @@ use Rattle.record.specs.declared.Stamp.{Stamp}
 use Rattle.record.proofs.StandingLaws.{proper-true}
 use Rattle.record.specs.Standing.{dummyKey, known, isDummy, isProper, mayStand}
 use Rattle.lists.specs.declared.Listed.{Listed as Counts}
-use Rattle.lists.specs.BucketList.{numbers, counts, Names}
+use Rattle.lists.specs.BucketList.{Names}
 use Rattle.path.proofs.SizesLaws.{in-range}
 use Rattle.refusal.specs.Refusal.{firstGiven}
 use Rattle.refusal.proofs.RefusalLaws.{none-given, append-none, left-before, left-done}
 use Rattle.root.specs.Root.{rootFull}
-use Rattle.card.specs.declared.Card.{Card}
-use Rattle.request.specs.declared.Waiting.{Waiting}
-use Rattle.request.specs.declared.Waiting.the-variants.{Nothing, Insert, Extract, Delete}
-use Rattle.request.proofs.RequestLaws.{request-numbered}
-use Rattle.listing.specs.Listing.{listFor, countsFor, placesFor, leavesWithin, Listable}
-use Rattle.listing.proofs.ListingLaws.{counts-for}
-use Rattle.checks.specs.Checks.{badWith, busyRows, beginChecks}
-use Rattle.checks.proofs.CheckLaws.{begin-fault, begin-room}
+use Rattle.request.specs.declared.Request.{Request}
+use Rattle.request.specs.declared.Request.the-variants.{Insert, Extract, Delete}
 use Rattle.request.specs.Tables.{badLabel, insertRows, extractRows, deleteRows, requestRows, waits}
-use Rattle.card.specs.Tables.{leavesIn, nextStamp, requestTable}
+use Rattle.request.specs.Job.{jobOf}
+use Rattle.request.proofs.RequestLaws.{request-numbered}
+use Rattle.listing.specs.Listing.{listFor, placesAsked, leavesWithin, Listable}
+use Rattle.judge.specs.BadParts.{stampOf, oddLeast}
+use Rattle.checks.specs.Checks.{busyRows, callRows}
+use Rattle.checks.proofs.CheckLaws.{begin-fault, begin-room}
+use Rattle.card.specs.declared.Card.{Card}
+use Rattle.card.specs.Tables.{leavesIn, partsOf, requestTable}
 use Rattle.card.specs.BadCard.{badCard}
-use Rattle.judge.specs.BadParts.{oddLeast}
 use Rattle.card.specs.Answers.{refused}
-use Rattle.card.specs.Calls.{listOf, beginTable, begunWith, begun, Begins}
-use Rattle.card.proofs.AnswerLaws.{is-refused, is-done}
+use Rattle.card.specs.Calls.{callTable, listOf, beginTable, begunWith, begun, Begins}
+use Rattle.card.proofs.AnswerLaws.{told-refused, told-done}
 use Rattle.card.proofs.GoodLaws.{Good, good}
 
--- the counts that the height tells are those of the list
-pub counts-of : (k : Card) (w : Waiting) → 1 ≤ k .sizes .h → counts (listOf k w) ≡ countsFor (k .sizes .h) w
-unfolding listOf
-counts-of k w h = counts-for (k .sizes .h) (k .least .label) w h
-
 -- a begin on a good card on which none waits: the request's own refusal, or no room, or none
-module _ (k : Card) (w : Waiting) (room : ℕ) (fine : badCard k ≡ false) (idle : waits (k .waiting) ≡ false) where
-  passes : 0 ≡ firstGiven (busyRows (badWith (k .sizes) (k .t) (k .c) (k .root) (k .least) (k .waiting)) (k .waiting))
-  unfolding badCard firstGiven
+module _ (k : Card) (r : Request) (room : ℕ) (fine : badCard k ≡ false) (idle : waits (k .waiting) ≡ false) where
+  passes : 0 ≡ firstGiven (busyRows (badCard k) (k .waiting))
+  unfolding firstGiven
   passes = rw (fine, idle)
 
-  pub request-refused : (firstGiven (requestTable k w) ≡ 0 → ⊥)
-      → firstGiven (beginTable k w room) ≡ firstGiven (requestTable k w)
-  unfolding beginTable badCard listOf
-  request-refused h = sym (begin-fault (k .sizes) (k .t) (k .c) (k .root) (k .least) (k .waiting) w room 0 passes refl _ refl h)
+  pub request-refused : (firstGiven (requestTable k r) ≡ 0 → ⊥)
+      → firstGiven (beginTable k r room) ≡ firstGiven (requestTable k r)
+  unfolding callTable
+  request-refused h = sym (begin-fault (badCard k) (partsOf k) (k .root) (k .waiting) 0 passes r room refl _ refl h)
 
-  pub room-enough : firstGiven (requestTable k w) ≡ 0 → placesFor (k .sizes .h) w ≤ room → firstGiven (beginTable k w room) ≡ 0
-  unfolding beginTable badCard listOf
-  room-enough e l =
-      begin-room (k .sizes) (k .t) (k .c) (k .root) (k .least) (k .waiting) w room 0 passes refl _ refl e ∙ rw (le-ltb _ _ l)
+  pub room-enough : firstGiven (requestTable k r) ≡ 0 → placesAsked (k .sizes .h) (jobOf (partsOf k) r) ≤ room → firstGiven (beginTable k r room) ≡ 0
+  unfolding callTable
+  room-enough e l = begin-room (badCard k) (partsOf k) (k .root) (k .waiting) 0 passes r room refl _ refl e ∙ rw (le-ltb _ _ l)
 
 -- a begin that is not refused
-pub record Accepted (k : Card) (w : Waiting) (room : ℕ) : Type 0 where
+pub record Accepted (k : Card) (r : Request) (room : ℕ) : Type 0 where
   pub card : Good k
   pub idle : waits (k .waiting) ≡ false
-  pub request : firstGiven (requestTable k w) ≡ 0
-  pub place : length (numbers (listOf k w)) ≤ room
+  pub request : firstGiven (requestTable k r) ≡ 0
+  pub place : placesAsked (k .sizes .h) (jobOf (partsOf k) r) ≤ room
 
-pub accepted : (k : Card) (w : Waiting) (room : ℕ) → firstGiven (beginTable k w room) ≡ 0 → Accepted k w room
-unfolding beginTable
-accepted k w room e =
+pub accepted : (k : Card) (r : Request) (room : ℕ) → firstGiven (beginTable k r room) ≡ 0 → Accepted k r room
+unfolding callTable callRows
+accepted k r room e =
     let a = none-given 13 (badCard k) _ (omega arith) e in
     let b = none-given 2 (waits (k .waiting)) _ (omega arith) (a .1) in
-    let c = append-none _ (request-numbered (k .sizes) (k .t) (k .c) (k .root) w) (b .1) in
-    let d = none-given 11 (ltb room (length (numbers (listOf k w)))) [] (omega arith) (c .1) in
+    let c = append-none _ (request-numbered (k .sizes) (k .t) (k .c) (k .root) r) (b .1) in
+    let d = none-given 11 (ltb room (placesAsked (k .sizes .h) (jobOf (partsOf k) r))) [] (omega arith) (c .1) in
     record { card = good k (a .0); idle = b .0; request = c .0; place = ltb-false _ _ (d .0) }
 
 -- ---- a request within its rules
@@ -121,7 +115,7 @@ extractable k e =
 pub record Deletable (k : Card) (l : Leaf) (s : Stamp) : Type 0 where
   pub time : k .t ≡ k .sizes .t → ⊥
   pub label : l .0 < leavesIn k
-  pub stamp : known (nextStamp k) s ≡ true
+  pub stamp : known (stampOf (k .t)) s ≡ true
 
 pub deletable : (k : Card) (label : Leaf) (stamp : Stamp) → firstGiven (requestTable k (Delete label stamp)) ≡ 0
     → Deletable k label stamp
@@ -133,7 +127,7 @@ deletable k label stamp e =
     record { time = eqb-false _ _ (a .0); label = leb-false _ _ (b .0); stamp = not-false _ (c .0) }
 
 -- the root's least record of a good card with live events is proper
-pub least-proper : (k : Card) → Good k → (k .c ≡ 0 → ⊥) → isProper (leavesIn k) (nextStamp k) (k .least) ≡ true
+pub least-proper : (k : Card) → Good k → (k .c ≡ 0 → ⊥) → isProper (leavesIn k) (stampOf (k .t)) (k .least) ≡ true
 unfolding oddLeast mayStand
 least-proper k g h = elim (dichotomy (isDummy (k .least))) [
   | inl f ↦
@@ -145,45 +139,35 @@ least-proper k g h = elim (dichotomy (isDummy (k .least))) [
 ]
 
 -- a list that may be laid
-leaves-within : (k : Card) (w : Waiting) → Good k → firstGiven (requestTable k w) ≡ 0 → leavesWithin (leavesIn k) (k .least .label) w
-leaves-within k Nothing g e = tt
+pub leaves-within : (k : Card) (r : Request) → Good k → firstGiven (requestTable k r) ≡ 0 → leavesWithin (leavesIn k) (jobOf (partsOf k) r)
 leaves-within k (Insert key value label first second) g e =
     let d = insertable k key value label first second e in
     (omega (arith, d .first), d .second .1)
 leaves-within k Extract g e = proper-true _ _ _ (least-proper k g (extractable k e .some)) .label
 leaves-within k (Delete label stamp) g e = deletable k label stamp e .label
 
-pub listable : (k : Card) (w : Waiting) (room : ℕ) → Accepted k w room → Listable (k .sizes) (k .least .label) w room
-unfolding listOf
-listable k w room b =
+pub listable : (k : Card) (r : Request) (room : ℕ) → Accepted k r room → Listable (k .sizes) (jobOf (partsOf k) r) room
+listable k r room b =
     record {
       height = in-range (k .sizes) (b .card .parts .sizes) .tree .height;
-      leaves = leaves-within k w (b .card) (b .request);
+      leaves = leaves-within k r (b .card) (b .request);
       place = b .place;
     }
 
--- ---- what a begin answers, told by the number that the checks of the parts gave
-module _ (k : Card) (w : Waiting) (before : List ℕ) (number : ℕ)
-    (given : number ≡ firstGiven (beginChecks (k .sizes) (k .t) (k .c) (k .root) (k .least) (k .waiting) w (length before))) where
-  why : number ≡ firstGiven (beginTable k w (length before))
-  unfolding beginTable badCard listOf
-  why = given
+-- ---- what a begin answers, told by the number that the checks gave
+module _ (k : Card) (r : Request) (before : List ℕ) (number : ℕ) (why : number ≡ firstGiven (beginTable k r (length before))) where
+  pub may-list : number ≡ 0 → Listable (k .sizes) (jobOf (partsOf k) r) (length before)
+  may-list z = listable k r (length before) (accepted k r (length before) (sym why ∙ z))
 
-  pub may-list : number ≡ 0 → Listable (k .sizes) (k .least .label) w (length before)
-  may-list z = listable k w (length before) (accepted k w (length before) (sym why ∙ z))
-
-  pub begin-refused : (number ≡ 0 → ⊥) → Begins k w before before (refused k number)
+  pub begin-refused : (number ≡ 0 → ⊥) → Begins k r before before (refused k number)
   begin-refused h =
-      record {
-        call = rw (← why) (is-refused k number (begun k w) h);
-        places = rw (← why) (sym (left-before number _ before h));
-      }
+      record { call = told-refused k number _ (begun k r) why h; places = rw (← why) (sym (left-before number _ before h)) }
 
-  pub begin-done : (after : List ℕ) (n : Counts) → number ≡ 0 → Names (listFor (k .sizes .h) (k .least .label) w) before after n
-      → Begins k w before after (begunWith k w n)
+  pub begin-done : (after : List ℕ) (n : Counts) → number ≡ 0 → Names (listFor (k .sizes .h) (jobOf (partsOf k) r)) before after n
+      → Begins k r before after (begunWith k r n)
   unfolding listOf
   begin-done after n h l =
       record {
-        call = rw (← why, l .counted) (is-done k number (begun k w) h refl);
+        call = rw (l .counted) (told-done k number _ (begun k r) why h refl);
         places = rw (← why) (l .places ∙ sym (left-done number _ before h));
       }

@@ -16,9 +16,11 @@ use Rattle.path.specs.Sizes.{inRange}
 use Rattle.refusal.specs.Refusal.{firstGiven}
 use Rattle.card.specs.declared.Card.{Card}
 use Rattle.request.specs.declared.Waiting.{Waiting}
-use Rattle.request.specs.declared.Waiting.the-variants.{Nothing, Insert, Extract, Delete}
-use Rattle.request.specs.Tables.{requestRows}
+use Rattle.request.specs.declared.Waiting.the-variants.{Nothing, For}
+use Rattle.request.specs.declared.Request.{Request}
+use Rattle.request.specs.declared.Request.the-variants.{Insert, Extract, Delete}
 use Rattle.judge.specs.BadParts.{oddLeast}
+use Rattle.card.specs.Tables.{waitingTable}
 use Rattle.card.specs.Calls.{freshCard, listOf, withWaiting}
 use Rattle.card.proofs.GoodLaws.{Good}
 use Rattle.card.proofs.BeginLaws.{Accepted}
@@ -51,7 +53,7 @@ stamps-dummies (suc n) = rw is-dummy (stamps-dummies n)
 
 -- ---- a started card is good
 pub fresh-good : (s : Sizes) → inRange s ≡ true → Good (freshCard s)
-unfolding oddLeast firstGiven requestRows
+unfolding oddLeast firstGiven
 fresh-good s h =
     let slots = take-dummies (s .r) 64 in
     let past = drop-dummies (s .r) 64 in
@@ -72,21 +74,20 @@ fresh-good s h =
 
 -- ---- a begin that is not refused, and a withdraw, leave a good card good
 module _ (k : Card) (g : Good k) where
-  pub waiting-good : (w : Waiting) → firstGiven (requestRows (k .sizes) (k .t) (k .c) (k .root) w) ≡ 0 → Good (withWaiting k w)
+  pub waiting-good : (w : Waiting) → firstGiven (waitingTable k w) ≡ 0 → Good (withWaiting k w)
   waiting-good w e = record { parts = g .parts; waiting = e }
 
   pub withdrawn-good : Good (withWaiting k Nothing)
-  unfolding requestRows firstGiven
+  unfolding firstGiven
   withdrawn-good = waiting-good Nothing refl
 
-pub begun-good : (k : Card) (w : Waiting) (room : ℕ) → Accepted k w room → Good (withWaiting k w)
-begun-good k w room b = waiting-good k (b .card) w (b .request)
+pub begun-good : (k : Card) (r : Request) (room : ℕ) → Accepted k r room → Good (withWaiting k (For r))
+begun-good k r room b = waiting-good k (b .card) (For r) (b .request)
 
--- ---- the list depends on the waiting request and the height, for ExtractMin on the root's least label, and on nothing else
+-- ---- the list depends on the request and the height, for ExtractMin on the root's least label, and on nothing else
 pub same-list :
-    (k k′ : Card) (w : Waiting) → k .sizes .h ≡ k′ .sizes .h → k .least .label ≡ k′ .least .label → listOf k w ≡ listOf k′ w
+    (k k′ : Card) (r : Request) → k .sizes .h ≡ k′ .sizes .h → k .least .label ≡ k′ .least .label → listOf k r ≡ listOf k′ r
 unfolding listOf
-same-list k k′ Nothing h l = refl
 same-list k k′ (Insert key value label first second) h l = rw h
 same-list k k′ Extract h l = rw (h, l)
 same-list k k′ (Delete label stamp) h l = rw h

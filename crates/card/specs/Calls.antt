@@ -1,9 +1,8 @@
 -- What each call answers: document 01, "A request, step by step". Assumes nothing.
 use Prim.Native.Nat.{ℕ}
 use mathlib.Core.Bool.{not}
-use mathlib.Core.List.{List, [], _∷_, _++_}
+use mathlib.Core.List.{List, [], _∷_}
 use mathlib.Core.Path.{_≡_}
-use lib.Dec.{eqb}
 use lib.ListN.{length, replicate}
 use Rattle.record.specs.declared.Record.{Record}
 use Rattle.record.specs.Standing.{dummy}
@@ -11,22 +10,30 @@ use Rattle.record.specs.Words.{record4}
 use Rattle.path.specs.declared.sizes.Sizes.{Sizes}
 use Rattle.lists.specs.declared.Listed.{Listed as Counts}
 use Rattle.path.specs.Sizes.{inRange}
-use Rattle.lists.specs.BucketList.{BucketList, noBuckets, numbers, counts, laid, wordsMoved}
+use Rattle.lists.specs.BucketList.{BucketList, noBuckets, counts, laid, wordsMoved}
 use Rattle.refusal.specs.Refusal.{Refusal, row, firstGiven, afterwards}
-use Rattle.card.specs.declared.Card.{Card}
+use Rattle.request.specs.declared.Request.{Request}
 use Rattle.request.specs.declared.Waiting.{Waiting}
-use Rattle.request.specs.declared.Waiting.the-variants.{Nothing}
+use Rattle.request.specs.declared.Waiting.the-variants.{Nothing, For}
+use Rattle.request.specs.Job.{jobOf}
 use Rattle.answers.specs.declared.Answer.the-variants.{Started, Listed, Least, Withdrawn}
-use Rattle.card.specs.declared.Done.{Done}
-use Rattle.card.specs.BadCard.{badCard}
 use Rattle.listing.specs.Listing.{listFor}
-use Rattle.checks.specs.Checks.{busyRows, idleRows, beginRows}
-use Rattle.card.specs.Tables.{requestTable}
+use Rattle.checks.specs.declared.Call.{Call}
+use Rattle.checks.specs.declared.Call.the-variants.{Min, Withdraw, Begin}
+use Rattle.checks.specs.Checks.{callRows}
+use Rattle.card.specs.declared.Card.{Card}
+use Rattle.card.specs.declared.Done.{Done}
+use Rattle.card.specs.Tables.{partsOf, cardOf}
+use Rattle.card.specs.BadCard.{badCard}
 use Rattle.card.specs.Answers.{Answered}
 
 -- a card with another waiting request, all else as it was
 abbrev pub withWaiting : Card → Waiting → Card
-withWaiting k w = record { sizes = k .sizes; t = k .t; c = k .c; root = k .root; least = k .least; waiting = w }
+withWaiting k w = cardOf (partsOf k) (k .root) w
+
+-- when a call is refused, but for Damaged: the rows stand in checks/specs/Checks.antt
+unfoldable pub callTable : Card → Call → List Refusal
+callTable k call = callRows (badCard k) (partsOf k) (k .root) (k .waiting) call
 
 -- ---- start
 -- nothing finished, nothing live, nothing waiting; all dummies
@@ -56,38 +63,38 @@ abbrev pub started : Sizes → Done
 started s = record { card = freshCard s; answer = Started }
 
 -- ---- begin
--- the bucket list of a request on a card: "ExtractMin uses the label of the root's least record"
-unfoldable pub listOf : Card → Waiting → BucketList
-listOf k w = listFor (k .sizes .h) (k .least .label) w
+-- the bucket list of a request on a card
+unfoldable pub listOf : Card → Request → BucketList
+listOf k r = listFor (k .sizes .h) (jobOf (partsOf k) r)
 
--- a request that is begun with room for so many numbers: the order of the rows stands in checks/specs/Checks.antt
-unfoldable pub beginTable : Card → Waiting → ℕ → List Refusal
-beginTable k w room = beginRows (badCard k) (k .waiting) (requestTable k w) (length (numbers (listOf k w))) room
+-- with room for so many numbers
+abbrev pub beginTable : Card → Request → ℕ → List Refusal
+beginTable k r room = callTable k (Begin r room)
 
 -- "It changes nothing on the card but the waiting request", and answers "how many are whole and how many are least-record only"
-abbrev pub begunWith : Card → Waiting → Counts → Done
-begunWith k w n = record { card = withWaiting k w; answer = Listed (n .whole) (n .least) }
+abbrev pub begunWith : Card → Request → Counts → Done
+begunWith k r n = record { card = withWaiting k (For r); answer = Listed (n .whole) (n .least) }
 
-abbrev pub begun : Card → Waiting → Done
-begun k w = begunWith k w (counts (listOf k w))
+abbrev pub begun : Card → Request → Done
+begun k r = begunWith k r (counts (listOf k r))
 
 -- the promise of a begin: its answer, and the lent list afterwards
-pub record Begins (k : Card) (w : Waiting) (before after : List ℕ) (answer : Done) : Type 0 where
-  pub call : Answered k (firstGiven (beginTable k w (length before))) (begun k w) answer
+pub record Begins (k : Card) (r : Request) (before after : List ℕ) (answer : Done) : Type 0 where
+  pub call : Answered k (firstGiven (beginTable k r (length before))) (begun k r) answer
   pub places :
-      after ≡ afterwards (firstGiven (beginTable k w (length before))) (laid (listOf k w) before) before
+      after ≡ afterwards (firstGiven (beginTable k r (length before))) (laid (listOf k r) before) before
 
--- ---- FindMin: "it checks 13, 2 and 8 only"
-unfoldable pub minTable : Card → List Refusal
-minTable k = busyRows (badCard k) (k .waiting) ++ (row 8 (eqb (k .c) 0) ∷ [])
+-- ---- FindMin
+abbrev pub minTable : Card → List Refusal
+minTable k = callTable k Min
 
 -- "answers the root's least record at once", of an empty list; "It leaves the card unchanged"
 abbrev pub foundMin : Card → Done
 foundMin k = record { card = k; answer = Least (k .least) (wordsMoved (k .sizes .z) noBuckets) }
 
--- ---- withdraw: "13, 3"
-unfoldable pub withdrawTable : Card → List Refusal
-withdrawTable k = idleRows (badCard k) (k .waiting)
+-- ---- withdraw
+abbrev pub withdrawTable : Card → List Refusal
+withdrawTable k = callTable k Withdraw
 
 -- "drops the waiting request and changes nothing else"
 abbrev pub withdrawn : Card → Done

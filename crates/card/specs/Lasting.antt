@@ -7,7 +7,7 @@ use mathlib.Core.Path.{_≡_}
 use Rattle.path.specs.declared.sizes.Sizes.{Sizes}
 use Rattle.path.specs.Sizes.{inRange}
 use Rattle.refusal.specs.Refusal.{firstGiven}
-use Rattle.request.specs.declared.Waiting.{Waiting}
+use Rattle.request.specs.declared.Request.{Request}
 use Rattle.card.specs.declared.Card.{Card}
 use Rattle.card.specs.declared.Done.{Done}
 use Rattle.card.specs.Answers.{Answered}
@@ -17,7 +17,7 @@ use Rattle.card.specs.Finish.{Finishes}
 -- the card of a start that was not refused, and what a call on such a card hands back, refused or not
 pub data Reached : Card → Type 0 where
   start : (s : Sizes) → inRange s ≡ true → Reached (freshCard s)
-  begin : {k : Card} {w : Waiting} {before after : List ℕ} {d : Done} → Reached k → Begins k w before after d → Reached (d .card)
+  begin : {k : Card} {r : Request} {before after : List ℕ} {d : Done} → Reached k → Begins k r before after d → Reached (d .card)
   finish : {k : Card} {before after : List ℕ} {d : Done} → Reached k → Finishes k before after d → Reached (d .card)
   withdraw : {k : Card} {d : Done} → Reached k → Answered k (firstGiven (withdrawTable k)) (withdrawn k) d → Reached (d .card)
   findMin : {k : Card} {d : Done} → Reached k → Answered k (firstGiven (minTable k)) (foundMin k) d → Reached (d .card)

@@ -1,26 +1,29 @@
 -- A card's parts, and the table of a request on a card. Assumes nothing.
 use Prim.Native.Nat.{ℕ}
 use mathlib.Core.List.{List}
-use Rattle.record.specs.declared.Stamp.{Stamp}
 use Rattle.record.specs.declared.Record.{Record}
-use Rattle.path.specs.declared.sizes.Sizes.{Sizes}
 use Rattle.path.specs.Sizes.{leavesOf}
 use Rattle.refusal.specs.Refusal.{Refusal}
-use Rattle.card.specs.declared.Card.{Card}
+use Rattle.parts.specs.declared.Parts.{Parts}
+use Rattle.request.specs.declared.Request.{Request}
 use Rattle.request.specs.declared.Waiting.{Waiting}
-use Rattle.request.specs.Tables.{requestRows}
+use Rattle.request.specs.Tables.{requestRows, waitingRows}
+use Rattle.card.specs.declared.Card.{Card}
 
--- N of a card, and the stamp of its next insertion
+-- N of a card
 abbrev pub leavesIn : Card → ℕ
 leavesIn k = leavesOf (k .sizes .h)
 
-abbrev pub nextStamp : Card → Stamp
-nextStamp k = record { 0 = k .t }
+-- all but the root and the waiting request; and a card of these
+abbrev pub partsOf : Card → Parts
+partsOf k = record { sizes = k .sizes; t = k .t; c = k .c; least = k .least }
 
--- a card of these parts
-abbrev pub cardOf : Sizes → ℕ → ℕ → List Record → Record → Waiting → Card
-cardOf s t c root least w = record { sizes = s; t = t; c = c; root = root; least = least; waiting = w }
+abbrev pub cardOf : Parts → List Record → Waiting → Card
+cardOf p root w = record { sizes = p .sizes; t = p .t; c = p .c; root = root; least = p .least; waiting = w }
 
--- the rows of a request stand in request/specs/Tables.antt
-abbrev pub requestTable : Card → Waiting → List Refusal
-requestTable k w = requestRows (k .sizes) (k .t) (k .c) (k .root) w
+-- the rows of a request, and of what waits, stand in request/specs/Tables.antt
+abbrev pub requestTable : Card → Request → List Refusal
+requestTable k r = requestRows (k .sizes) (k .t) (k .c) (k .root) r
+
+abbrev pub waitingTable : Card → Waiting → List Refusal
+waitingTable k w = waitingRows (k .sizes) (k .t) (k .c) (k .root) w

@@ -4,18 +4,22 @@ ghost use mathlib.Core.Path.{_≡_};
 ghost use Rattle.refusal.specs.Refusal.{firstGiven};
 ghost use Rattle.path.specs.Sizes.{sizesOf};
 ghost use Rattle.card.specs.Answers.{refused, Answered};
-ghost use Rattle.card.specs.Calls.{freshCard, zeroCard, startTable, started, begunWith, Begins, minTable, foundMin, withdrawTable, withdrawn};
+ghost use Rattle.card.specs.Tables.{partsOf};
+ghost use Rattle.card.specs.Calls.{callTable, freshCard, zeroCard, startTable, started, begunWith, Begins, minTable, foundMin, withdrawTable, withdrawn};
 use crate::Card;
 use crate::Done;
 use answers::Answer;
+use checks::Call;
 use lists::Listed;
+use parts::Parts;
 use path::Sizes;
 use record::Leaf;
 use record::Record;
 use record::Stamp;
 use refusal::BAD_SIZE;
-use refusal::EMPTY;
+use request::Request;
 use request::Waiting;
+use request::job_of;
 
 impl Card {
     // A card on which nothing is finished, live or waiting.
@@ -86,6 +90,20 @@ impl Card {
         }
     }
 
+    // All but the root and the waiting request.
+    pub(crate) fn parts(self) -> Parts
+        ensures { λ p. ⌜ p ≡ partsOf self ⌝ }
+    {
+        let sizes = self.sizes;
+        let least = self.least;
+        Parts {
+            sizes: sizes,
+            t: self.t,
+            c: self.c,
+            least: least,
+        }
+    }
+
     // Refused with this number.
     pub(crate) fn refuse(self, number: u64) -> Done
         ensures { λ d. ⌜ d ≡ refused self number ⌝ }
@@ -97,16 +115,26 @@ impl Card {
         }
     }
 
+    // Why a call is refused, but for Damaged; 0 where it is not.
+    pub(crate) fn why(self, call: Call) -> u64
+        ensures { λ n. ⌜ n ≡ firstGiven (callTable self call) ⌝ }
+    {
+        let root = self.root;
+        let waiting = self.waiting;
+        checks::why(root, self.parts(), waiting, call)
+    }
+
     // The request waits, and its list has so many numbers.
-    fn begun(self, request: Waiting, counts: Listed) -> Done
+    fn begun(self, request: Request, counts: Listed) -> Done
         ensures { λ d. ⌜ d ≡ begunWith self request counts ⌝ }
     {
         let answer = Answer::Listed {
             whole: counts.whole,
             least: counts.least,
         };
+        let waiting = Waiting::For(request);
         let card = Card {
-            waiting: request,
+            waiting: waiting,
             ..self
         };
         Done {
@@ -116,81 +144,33 @@ impl Card {
     }
 
     // Begin: a request that is not refused waits, and its list is laid.
-    fn begin(self, request: Waiting, list: &mut [u64]) -> Done
+    pub fn begin(self, request: Request, list: &mut [u64]) -> Done
         ensures { λ d. ⌜ Begins self request (now (list .entry)) (now (list .exit)) d ⌝ }
     {
-        let root = self.root;
-        let least = self.least;
-        let waiting = self.waiting;
-        let number = checks::why_begin(
-            root,
-            self.sizes,
-            self.t,
-            self.c,
-            least,
-            waiting,
-            request,
-            list.len(),
-        );
+        let room = list.len();
+        let call = Call::Begin {
+            request: request,
+            room: room,
+        };
+        let number = self.why(call);
         if number != 0 {
             return self.refuse(number);
         }
-        let counts = listing::list_for(self.sizes, least.label, request, list);
+        let job = job_of(self.parts(), request);
+        let counts = listing::list_for(self.sizes, job, list);
         self.begun(request, counts)
-    }
-
-    pub fn begin_insert(
-        self,
-        key: u64,
-        value: u64,
-        label: Leaf,
-        first: Leaf,
-        second: Leaf,
-        list: &mut [u64],
-    ) -> Done
-        ensures { λ d. ⌜ Begins self (Waiting.Insert key value label first second) (now (list .entry)) (now (list .exit)) d ⌝ }
-    {
-        let request = Waiting::Insert {
-            key: key,
-            value: value,
-            label: label,
-            first: first,
-            second: second,
-        };
-        self.begin(request, list)
-    }
-
-    pub fn begin_extract(self, list: &mut [u64]) -> Done
-        ensures { λ d. ⌜ Begins self Waiting.Extract (now (list .entry)) (now (list .exit)) d ⌝ }
-    {
-        let request = Waiting::Extract;
-        self.begin(request, list)
-    }
-
-    pub fn begin_delete(self, label: Leaf, stamp: Stamp, list: &mut [u64]) -> Done
-        ensures { λ d. ⌜ Begins self (Waiting.Delete label stamp) (now (list .entry)) (now (list .exit)) d ⌝ }
-    {
-        let request = Waiting::Delete {
-            label: label,
-            stamp: stamp,
-        };
-        self.begin(request, list)
     }
 
     // At once, and no finished request: the list is empty, and no words are moved.
     pub fn find_min(self) -> Done
         ensures { λ d. ⌜ Answered self (firstGiven (minTable self)) (foundMin self) d ⌝ }
     {
-        let root = self.root;
-        let least = self.least;
-        let waiting = self.waiting;
-        let number = checks::why_busy(root, self.sizes, self.t, self.c, least, waiting);
+        let call = Call::Min;
+        let number = self.why(call);
         if number != 0 {
             return self.refuse(number);
         }
-        if self.c == 0 {
-            return self.refuse(EMPTY);
-        }
+        let least = self.least;
         let answer = Answer::Least {
             event: least,
             words: 0,
@@ -204,10 +184,8 @@ impl Card {
     pub fn withdraw(self) -> Done
         ensures { λ d. ⌜ Answered self (firstGiven (withdrawTable self)) (withdrawn self) d ⌝ }
     {
-        let root = self.root;
-        let least = self.least;
-        let waiting = self.waiting;
-        let number = checks::why_idle(root, self.sizes, self.t, self.c, least, waiting);
+        let call = Call::Withdraw;
+        let number = self.why(call);
         if number != 0 {
             return self.refuse(number);
         }

@@ -5,19 +5,21 @@ ghost use Prim.Native.Nat.{_≤_};
 ghost use Rattle.card.specs.Finish.{doneWith, Finishes};
 use crate::Card;
 use crate::Done;
+use checks::Call;
 use refusal::DAMAGED;
+use refusal::IDLE;
+use request::Request;
 use request::Waiting;
+use request::job_of;
 use settle::Settled;
 
 impl Card {
     // The card that comes out, with the answer: one request more is finished, and none waits.
-    fn done_with(self, out: Settled) -> Done
+    fn done_with(self, request: Request, out: Settled) -> Done
         requires { ⌜ self .t ≤ 4294967295 ⌝ }
-        ensures { λ d. ⌜ d ≡ doneWith self out ⌝ }
+        ensures { λ d. ⌜ d ≡ doneWith self request out ⌝ }
     {
-        let waited = self.waiting;
-        let old = self.least;
-        let answer = answers::answer_to(waited, self.t, old, out.found, out.moved);
+        let answer = answers::answer_to(self.parts(), request, out.found, out.moved);
         let waiting = Waiting::Nothing;
         let root = out.root;
         let least = out.least;
@@ -38,25 +40,22 @@ impl Card {
     pub fn finish(self, words: &mut [u64]) -> Done
         ensures { λ d. ⌜ Finishes self (now (words .entry)) (now (words .exit)) d ⌝ }
     {
-        let root = self.root;
-        let least = self.least;
-        let waiting = self.waiting;
-        let number = checks::why_finish(
-            root,
-            self.sizes,
-            self.t,
-            self.c,
-            least,
-            waiting,
-            words.len(),
-        );
+        let room = words.len();
+        let call = Call::Finish { room: room };
+        let number = self.why(call);
         if number != 0 {
             return self.refuse(number);
         }
-        let out = finishes::settle_request(words, root, self.sizes, self.t, self.c, least, waiting);
+        let waiting = self.waiting;
+        let Waiting::For(request) = waiting else {
+            return self.refuse(IDLE);
+        };
+        let root = self.root;
+        let parts = self.parts();
+        let out = finishes::settle_job(words, root, parts, job_of(parts, request));
         if out.damaged {
             return self.refuse(DAMAGED);
         }
-        self.done_with(out)
+        self.done_with(request, out)
     }
 }

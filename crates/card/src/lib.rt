@@ -2,7 +2,7 @@
 // slots, the root's least record and the waiting request, if any."
 //
 // A card is a value that goes in with a call and comes out of it. Every call answers, whatever numbers the card holds.
-// Stands on `record`, `path`, `lists`, `refusal`, `request`, `listing`, `answers`, `checks`, `settle`, `finishes`.
+// Stands on `record`, `path`, `parts`, `lists`, `refusal`, `request`, `listing`, `answers`, `checks`, `settle`, `finishes`.
 mod calls;
 mod finish;
 

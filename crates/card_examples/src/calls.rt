@@ -1,10 +1,19 @@
 // One call on a card, and its line: the name of the case, the answer, and for a begin the whole list that is lent. Each
 // hands back the card.
 use crate::line;
+use crate::requests;
 use crate::show;
 use card::Card;
-use record::Leaf;
-use record::Stamp;
+use request::Request;
+
+fn begin(card: Card, request: Request, list: &mut [u64]) -> Card {
+    let done = card.begin(request, list);
+    line::name();
+    show::answer(done);
+    show::list(list);
+    line::end();
+    done.card
+}
 
 pub(crate) fn insert(
     card: Card,
@@ -14,30 +23,16 @@ pub(crate) fn insert(
     second: u64,
     list: &mut [u64],
 ) -> Card {
-    let done = card.begin_insert(key, 60, Leaf(label), Leaf(first), Leaf(second), list);
-    line::name();
-    show::answer(done);
-    show::list(list);
-    line::end();
-    done.card
+    begin(card, requests::insert(key, label, first, second), list)
 }
 
 pub(crate) fn extract(card: Card, list: &mut [u64]) -> Card {
-    let done = card.begin_extract(list);
-    line::name();
-    show::answer(done);
-    show::list(list);
-    line::end();
-    done.card
+    let request = Request::Extract;
+    begin(card, request, list)
 }
 
 pub(crate) fn delete(card: Card, label: u64, stamp: u64, list: &mut [u64]) -> Card {
-    let done = card.begin_delete(Leaf(label), Stamp(stamp), list);
-    line::name();
-    show::answer(done);
-    show::list(list);
-    line::end();
-    done.card
+    begin(card, requests::delete(label, stamp), list)
 }
 
 pub(crate) fn min(card: Card) -> Card {
@@ -57,19 +52,9 @@ pub(crate) fn withdraw(card: Card) -> Card {
 }
 
 // The number alone that each of the five calls gives, with fields that a good card with an event takes.
-fn insert_number(card: Card) {
+fn begin_number(card: Card, request: Request) {
     let mut list = [99u64; 12];
-    show::verdict(card.begin_insert(6, 60, Leaf(1), Leaf(1), Leaf(2), &mut list));
-}
-
-fn extract_number(card: Card) {
-    let mut list = [99u64; 12];
-    show::verdict(card.begin_extract(&mut list));
-}
-
-fn delete_number(card: Card) {
-    let mut list = [99u64; 12];
-    show::verdict(card.begin_delete(Leaf(0), Stamp(0), &mut list));
+    show::verdict(card.begin(request, &mut list));
 }
 
 fn other_numbers(card: Card) {
@@ -79,9 +64,10 @@ fn other_numbers(card: Card) {
 
 pub(crate) fn each(card: Card) {
     line::name();
-    insert_number(card);
-    extract_number(card);
-    delete_number(card);
+    begin_number(card, requests::insert(6, 1, 1, 2));
+    let request = Request::Extract;
+    begin_number(card, request);
+    begin_number(card, requests::delete(0, 0));
     other_numbers(card);
     line::end();
 }

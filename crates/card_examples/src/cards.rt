@@ -1,10 +1,12 @@
 // Cards to call: started ones, and forged ones, which differ from a good card in the numbers that are given.
 ghost use Prim.Native.Nat.{_<_, _≤_};
+use crate::requests;
 use card::Card;
 use path::Sizes;
 use record::Leaf;
 use record::Record;
 use record::Stamp;
+use request::Request;
 use request::Waiting;
 
 // 2^64 - 1, the greatest number that a field can hold.
@@ -67,40 +69,23 @@ pub(crate) fn least(card: Card, key: u64, value: u64, label: u64, stamp: u64) ->
     }
 }
 
-pub(crate) fn inserting(card: Card, key: u64, label: u64, first: u64, second: u64) -> Card {
-    let label = Leaf(label);
-    let first = Leaf(first);
-    let second = Leaf(second);
-    let request = Waiting::Insert {
-        key: key,
-        value: 60,
-        label: label,
-        first: first,
-        second: second,
-    };
+fn waiting(card: Card, request: Request) -> Card {
+    let waiting = Waiting::For(request);
     Card {
-        waiting: request,
+        waiting: waiting,
         ..card
     }
+}
+
+pub(crate) fn inserting(card: Card, key: u64, label: u64, first: u64, second: u64) -> Card {
+    waiting(card, requests::insert(key, label, first, second))
 }
 
 pub(crate) fn extracting(card: Card) -> Card {
-    let request = Waiting::Extract;
-    Card {
-        waiting: request,
-        ..card
-    }
+    let request = Request::Extract;
+    waiting(card, request)
 }
 
 pub(crate) fn deleting(card: Card, label: u64, stamp: u64) -> Card {
-    let label = Leaf(label);
-    let stamp = Stamp(stamp);
-    let request = Waiting::Delete {
-        label: label,
-        stamp: stamp,
-    };
-    Card {
-        waiting: request,
-        ..card
-    }
+    waiting(card, requests::delete(label, stamp))
 }

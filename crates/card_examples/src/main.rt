@@ -12,6 +12,7 @@ mod line;
 mod named;
 mod order;
 mod refused;
+mod requests;
 mod runs;
 mod show;
 mod starts;

@@ -5,6 +5,7 @@ use card::Card;
 use card::Done;
 use path::Sizes;
 use record::Record;
+use request::Request;
 use request::Waiting;
 
 fn record(r: Record) {
@@ -56,11 +57,10 @@ pub(crate) fn list(places: &[u64]) {
     }
 }
 
-// What waits: none, or the kind's name and its numbers.
-fn waiting(request: Waiting) {
+// The kind's name and its numbers.
+fn asked(request: Request) {
     match request {
-        Waiting::Nothing => line::text(b", none waits"),
-        Waiting::Insert {
+        Request::Insert {
             key,
             value,
             label,
@@ -74,12 +74,19 @@ fn waiting(request: Waiting) {
             line::number(first.0);
             line::number(second.0);
         }
-        Waiting::Extract => line::text(b", ExtractMin waits"),
-        Waiting::Delete { label, stamp } => {
+        Request::Extract => line::text(b", ExtractMin waits"),
+        Request::Delete { label, stamp } => {
             line::text(b", Delete waits");
             line::number(label.0);
             line::number(stamp.0);
         }
+    }
+}
+
+fn waiting(held: Waiting) {
+    match held {
+        Waiting::Nothing => line::text(b", none waits"),
+        Waiting::For(request) => asked(request),
     }
 }
 
@@ -113,6 +120,6 @@ pub(crate) fn card(held: Card) {
     named_record(b", last", last);
     let least = held.least;
     named_record(b", least", least);
-    let request = held.waiting;
-    waiting(request);
+    let waits = held.waiting;
+    waiting(waits);
 }

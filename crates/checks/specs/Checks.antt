@@ -1,46 +1,46 @@
--- The first refusals of a call on the card's parts: document 01, "Refusal numbers". Assumes nothing.
+-- When a call on the card's parts is refused, but for Damaged: document 01, "Refusal numbers". Assumes nothing.
 use Prim.Native.Nat.{ℕ}
 use mathlib.Core.Bool.{Bool, not, _||_}
 use mathlib.Core.List.{List, [], _∷_, _++_}
 use lib.Dec.{ltb, eqb}
-use lib.ListN.{length}
 use Rattle.record.specs.declared.Record.{Record}
-use Rattle.path.specs.declared.sizes.Sizes.{Sizes}
-use Rattle.lists.specs.BucketList.{numbers}
 use Rattle.refusal.specs.Refusal.{Refusal, row, firstGiven}
+use Rattle.parts.specs.declared.Parts.{Parts}
 use Rattle.judge.specs.BadParts.{badParts}
 use Rattle.request.specs.declared.Waiting.{Waiting}
-use Rattle.request.specs.Tables.{requestRows, waits}
-use Rattle.listing.specs.Listing.{listFor, wordsAsked}
+use Rattle.request.specs.declared.Waiting.the-variants.{Nothing, For}
+use Rattle.request.specs.Tables.{requestRows, waitingRows, waits}
+use Rattle.request.specs.Job.{jobOf}
+use Rattle.listing.specs.Listing.{placesAsked, wordsAsked}
+use Rattle.checks.specs.declared.Call.{Call}
+use Rattle.checks.specs.declared.Call.the-variants.{Min, Withdraw, Begin, Finish}
 
--- the rows of a call's table, where `bad` is whether the card is a BadCard and `w` waits: "13, 2 or 3"
+-- "a waiting request that begin would refuse (numbers 4 to 10)"
+abbrev pub badWaiting : Parts → List Record → Waiting → Bool
+badWaiting p root w = not (eqb (firstGiven (waitingRows (p .sizes) (p .t) (p .c) root w)) 0)
+
+-- BadCard: the clauses on the other parts are those of judge/specs/BadParts.antt
+abbrev pub badWith : Parts → List Record → Waiting → Bool
+badWith p root w = badParts p root || badWaiting p root w
+
+-- "13, 2 or 3", where `bad` is whether the card is a BadCard and `w` waits
 abbrev pub busyRows : Bool → Waiting → List Refusal
 busyRows bad w = row 13 bad ∷ row 2 (waits w) ∷ []
 
 abbrev pub idleRows : Bool → Waiting → List Refusal
 idleRows bad w = row 13 bad ∷ row 3 (not (waits w)) ∷ []
 
--- begin: "13, 2 or 3, 4, 5, 6, 7, 8, 9, 10, 11"; `rows` are the request's own, and it needs so many of the places that are lent
-abbrev pub beginRows : Bool → Waiting → List Refusal → ℕ → ℕ → List Refusal
-beginRows bad w rows places room = busyRows bad w ++ (rows ++ (row 11 (ltb room places) ∷ []))
+-- "a lent slice too short": fewer words than are fetched for the request that waits
+abbrev pub shortRows : Parts → Waiting → ℕ → List Refusal
+shortRows p Nothing room = []
+shortRows p (For request) room = row 11 (ltb room (wordsAsked (p .sizes) (jobOf p request))) ∷ []
 
--- "finish checks 13, 3, 11, 12 only": the first three; it needs so many of the words that are lent
-abbrev pub entryRows : Bool → Waiting → ℕ → ℕ → List Refusal
-entryRows bad w words room = idleRows bad w ++ (row 11 (ltb room words) ∷ [])
-
-module _ (s : Sizes) (t c : ℕ) (root : List Record) (least : Record) (w : Waiting) where
-  -- "a waiting request that begin would refuse (numbers 4 to 10)"
-  abbrev pub badWaiting : Bool
-  badWaiting = not (eqb (firstGiven (requestRows s t c root w)) 0)
-
-  -- BadCard: the clauses on the other parts are those of judge/specs/BadParts.antt
-  abbrev pub badWith : Bool
-  badWith = badParts s t c root least || badWaiting
-
-  -- begin and finish on a card of these parts
-  abbrev pub beginChecks : Waiting → ℕ → List Refusal
-  beginChecks request room =
-      beginRows badWith w (requestRows s t c root request) (length (numbers (listFor (s .h) (least .label) request))) room
-
-  abbrev pub entryChecks : ℕ → List Refusal
-  entryChecks room = entryRows badWith w (wordsAsked s (least .label) w) room
+-- "Order on the card: 13, 2 or 3, 4, 5, 6, 7, 8, 9, 10, 11, 12, each where it applies; finish checks 13, 3, 11, 12 only, withdraw 13,
+-- 3"; FindMin "checks 13, 2 and 8 only". 12 stands in card/specs/Finish.antt.
+unfoldable pub callRows : Bool → Parts → List Record → Waiting → Call → List Refusal
+callRows bad p root w Min = busyRows bad w ++ (row 8 (eqb (p .c) 0) ∷ [])
+callRows bad p root w Withdraw = idleRows bad w
+callRows bad p root w (Begin request room) =
+    busyRows bad w
+    ++ (requestRows (p .sizes) (p .t) (p .c) root request ++ (row 11 (ltb room (placesAsked (p .sizes .h) (jobOf p request))) ∷ []))
+callRows bad p root w (Finish room) = idleRows bad w ++ shortRows p w room

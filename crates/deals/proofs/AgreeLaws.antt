@@ -7,7 +7,7 @@ use mathlib.Core.Logic.{⊎-elim}
 use mathlib.Core.Path.{_≡_, sym, ap, _∙_}
 use Rattle.path.specs.declared.sizes.Sizes.{Sizes}
 use Rattle.path.specs.Sizes.{leavesOf}
-use Rattle.request.specs.declared.Waiting.{Waiting}
+use Rattle.request.specs.declared.Request.{Request}
 use Rattle.request.specs.declared.Waiting.the-variants.{Nothing}
 use Rattle.card.specs.Calls.{listOf}
 use Rattle.demands.specs.Queue.{Queue}
@@ -28,7 +28,7 @@ pub data Agree : World → World → List Call → List Call → Type 0 where
       → Agree (step u c .world) (step v d .world) cs ds → Agree u v (c ∷ cs) (d ∷ ds)
 
 -- of a request on each side that asks for the same list
-agree-round : {s : Sizes} {u v : World} {q p : Queue} {w x : Waiting} {asked : Asked w} {asked′ : Asked x} {places words places′ words′ : List ℕ}
+agree-round : {s : Sizes} {u v : World} {q p : Queue} {w x : Request} {asked : Asked w} {asked′ : Asked x} {places words places′ words′ : List ℕ}
     {cs ds : List Call} → Round s u q asked places words → Round s v p asked′ places′ words′ → listOf (v .card) x ≡ listOf (u .card) w
     → well (doneBy v asked′ places′ words′ .answer) ≡ true
     → Agree (doneBy u asked places words .world) (doneBy v asked′ places′ words′ .world) cs ds
@@ -38,7 +38,7 @@ agree-round r t e well′ rest =
 
 -- ---- request by request
 module _ (s : Sizes) (f : ℕ → ℕ) (below : (stamp : ℕ) → f stamp < leavesOf (s .h)) where
-  agree-met : {u v : World} {q p : Queue} {w x x′ : Waiting} {asked : Asked w} {asked′ : Asked x′} {places words places′ words′ : List ℕ}
+  agree-met : {u v : World} {q p : Queue} {w x x′ : Request} {asked : Asked w} {asked′ : Asked x′} {places words places′ words′ : List ℕ}
       {cs ds ds′ : List Call} → Round s u q asked places words → Meets s f below u v q p x asked asked′ places words places′ words′ cs ds
       → Agree (doneBy u asked places words .world) (doneBy v asked′ places′ words′ .world) cs ds′
       → Agree u v (begin asked places ∷ finish words ∷ cs) (begin asked′ places′ ∷ finish words′ ∷ ds′)

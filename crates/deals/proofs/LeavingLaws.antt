@@ -13,7 +13,7 @@ use native.Mathlib.Omega.{arith}
 use lib.Dec.{eqb}
 use lib.ListN.{length, length-map}
 use borrow.Author.Tests.{eq-eqb, ne-eqb}
-use Rattle.demands.specs.Queue.{Reference, Event, Queue, Request, insert, findMin, extractMin, delete, nothing, refersTo, noDearer, sooner, leastEvent, has, takenOut, next}
+use Rattle.demands.specs.Queue.{Reference, Event, Queue, Operation, insert, findMin, extractMin, delete, nothing, refersTo, noDearer, sooner, leastEvent, has, takenOut, next}
 use Rattle.demands.proofs.SortedLaws.{refers-is, has-other, out-own, out-other, has-live}
 use Rattle.deals.specs.Dealing.{refs, leaving, paired}
 
@@ -138,19 +138,19 @@ least-in [] m e = absurd (let z : _≡_ {A = ℕ} 0 1 = cc in omega arith)
 least-in (x ∷ es) m e = sooner-in x m es (leastEvent es) (λ y f. least-in es y f) e
 
 -- ---- what is taken out is there
-abbrev pub There : Queue → Request → Type 0
+abbrev pub There : Queue → Operation → Type 0
 There q (insert key value label) = Unit {0}
 There q findMin = Unit {0}
 There q extractMin = (m : Event) × (leastEvent (q .events) ≡ some m)
 There q (delete r) = has r (q .events) ≡ true
 There q nothing = Unit {0}
 
-abbrev pub Feasible : Queue → List Request → Type 0
+abbrev pub Feasible : Queue → List Operation → Type 0
 Feasible q [] = Unit {0}
 Feasible q (r ∷ rs) = There q r × Feasible (next q r) rs
 
 -- the references of the insertions, the first with this stamp
-abbrev pub made : ℕ → List Request → List Reference
+abbrev pub made : ℕ → List Operation → List Reference
 made t [] = []
 made t (insert key value label ∷ rs) = record { label = label; stamp = t } ∷ made (suc t) rs
 made t (findMin ∷ rs) = made t rs
@@ -158,7 +158,7 @@ made t (extractMin ∷ rs) = made (suc t) rs
 made t (delete r ∷ rs) = made (suc t) rs
 made t (nothing ∷ rs) = made t rs
 
-pub leaving-perm : (q : Queue) (rs : List Request) → Feasible q rs → List·Permᴰ (leaving q rs) (refs (q .events) ++ made (q .taken) rs)
+pub leaving-perm : (q : Queue) (rs : List Operation) → Feasible q rs → List·Permᴰ (leaving q rs) (refs (q .events) ++ made (q .taken) rs)
 unfolding leaving
 leaving-perm q [] h = Permᴰ·symm (Permᴰ·append-nil _)
 leaving-perm q (insert key value label ∷ rs) h =
@@ -179,7 +179,7 @@ leaving-perm q (nothing ∷ rs) h = leaving-perm q rs (h .1)
 abbrev pub stamps : List Reference → List ℕ
 stamps rs = map (λ r. r .stamp) rs
 
-made-above : (t u : ℕ) (rs : List Request) → u < t → All (λ y. y ≡ u → ⊥) (stamps (made t rs))
+made-above : (t u : ℕ) (rs : List Operation) → u < t → All (λ y. y ≡ u → ⊥) (stamps (made t rs))
 made-above t u [] h = tt
 made-above t u (insert key value label ∷ rs) h = (omega arith, made-above (suc t) u rs (omega arith))
 made-above t u (findMin ∷ rs) h = made-above t u rs h
@@ -187,7 +187,7 @@ made-above t u (extractMin ∷ rs) h = made-above (suc t) u rs (omega arith)
 made-above t u (delete r ∷ rs) h = made-above (suc t) u rs (omega arith)
 made-above t u (nothing ∷ rs) h = made-above t u rs h
 
-pub made-nodup : (t : ℕ) (rs : List Request) → NoDup (stamps (made t rs))
+pub made-nodup : (t : ℕ) (rs : List Operation) → NoDup (stamps (made t rs))
 made-nodup t [] = tt
 made-nodup t (insert key value label ∷ rs) = (made-above (suc t) t rs (omega arith), made-nodup (suc t) rs)
 made-nodup t (findMin ∷ rs) = made-nodup t rs

@@ -14,12 +14,14 @@ use Rattle.record.specs.Standing.{dummyKey}
 use Rattle.path.specs.declared.sizes.Sizes.{Sizes}
 use Rattle.path.specs.Sizes.{leavesOf}
 use Rattle.lists.specs.BucketList.{pairList, pathList}
-use Rattle.request.specs.declared.Waiting.{Waiting}
-use Rattle.request.specs.declared.Waiting.the-variants.{Insert, Extract, Delete}
-use Rattle.listing.specs.Listing.{countsFor}
+use Rattle.request.specs.declared.Request.{Request}
+use Rattle.request.specs.declared.Request.the-variants.{Insert, Extract, Delete}
+use Rattle.listing.proofs.ListingLaws.{path-places, path-words}
+use Rattle.card.specs.Tables.{partsOf}
 use Rattle.card.specs.Calls.{listOf}
-use Rattle.demands.specs.Queue.{Reference, Event, Queue, Request, has, withoutThis, extractMin, next, nothing, delete as remove}
+use Rattle.demands.specs.Queue.{Reference, Event, Queue, Operation, has, withoutThis, extractMin, next, nothing, delete as remove}
 use Rattle.demands.specs.World.{World, Asked, insert, extract, delete, Call, begin, finish, findMin, step}
+use Rattle.demands.specs.Refusals.{partsTold}
 use Rattle.demands.specs.Says.{refOf, eventOf, asks}
 use Rattle.deals.specs.Trace.{numberGiven}
 use Rattle.deals.specs.Sequences.{leaf, requests, blanks, unlabelled, well, Fair}
@@ -74,7 +76,7 @@ module _ (s : Sizes) (f : ℕ → ℕ) (below : (stamp : ℕ) → f stamp < leav
 
   -- ---- a request on both: what the second comes to
   -- one event leaves on each side: the label of the first is the one that f gives to the second
-  module _ (q p : Queue) (a b : Request) (rs ss : List Request) (x y : Reference) where
+  module _ (q p : Queue) (a b : Operation) (rs ss : List Operation) (x y : Reference) where
     both-leave :
         map f (stamps (leaving p (b ∷ nothing ∷ ss))) ≡ map (λ r. r .label) (leaving q (a ∷ nothing ∷ rs)) → gone q a ≡ x ∷ [] → gone p b ≡ y ∷ []
         → f (y .stamp) ∷ map f (stamps (leaving (next p b) ss)) ≡ x .label ∷ map (λ r. r .label) (leaving (next q a) rs)
@@ -84,7 +86,7 @@ module _ (s : Sizes) (f : ℕ → ℕ) (below : (stamp : ℕ) → f stamp < leav
         ∙ ap (λ (g : List Reference). map (λ r. r .label) (g ++ leaving (next q a) rs)) ex
 
   -- what both leave is a pair again
-  pair-next : {u v : World} (q p : Queue) {w x x′ : Waiting} {asked : Asked w} {asked′ : Asked x′} {places words places′ words′ : List ℕ}
+  pair-next : {u v : World} (q p : Queue) {w x x′ : Request} {asked : Asked w} {asked′ : Asked x′} {places words places′ words′ : List ℕ}
       {cs ds cs′ ds′ : List Call} → Pair u v q p cs′ ds′ → OneKind w x → Round s u q asked places words → Round s v (dressed f p) asked′ places′ words′
       → next (dressed f p) (asks x′) ≡ dressed f (next p (unlabelled (asks x)))
       → next q (asks w) .taken ≡ next p (unlabelled (asks x)) .taken
@@ -101,7 +103,7 @@ module _ (s : Sizes) (f : ℕ → ℕ) (below : (stamp : ℕ) → f stamp < leav
         leave = leave;
       }
 
-  pub record Meets (u v : World) (q p : Queue) {w x′ : Waiting} (x : Waiting) (asked : Asked w) (asked′ : Asked x′)
+  pub record Meets (u v : World) (q p : Queue) {w x′ : Request} (x : Request) (asked : Asked w) (asked′ : Asked x′)
       (places words places′ words′ : List ℕ) (cs ds : List Call) : Type 0 where
     pub request : Round s v (dressed f p) asked′ places′ words′
     pub list : listOf (v .card) x′ ≡ listOf (u .card) w
@@ -117,13 +119,13 @@ module _ (s : Sizes) (f : ℕ → ℕ) (below : (stamp : ℕ) → f stamp < leav
       (begin (insert {key = key′} {value = value′} {label = label′} {first = first} {second = second} word) places′ ∷ finish words′ ∷ ds)
       → Meets u v q p (Insert key′ value′ label′ first second) asked (labelledAs (f (p .taken)) key′ value′ first second word) places words places′ words′ cs ds
       ⊎ (numberGiven (step v (begin (labelledAs (f (p .taken)) key′ value′ first second word) places′)) ≡ 10)
-  unfolding leaving listOf countsFor
+  unfolding leaving listOf
   insert-meets {u} {v} q p {key = key} {value} {key′} {value′} {label} {label′} {first} {second} {places′ = places′} {words′ = words′} word r fair x =
       let given = labelledAs (f (p .taken)) key′ value′ first second word in
-      let n = idle-begin s v (dressed f p) (x .second) given places′ (fair .room) in
+      let n = idle-begin s v (dressed f p) (x .second) given places′ (fair .room (partsOf (v .card))) in
       ⊎-elim
       (λ e.
-      let t = round-passes s v (dressed f p) given places′ words′ (x .second) (n ∙ e) (fair .lent) in
+      let t = round-passes s v (dressed f p) given places′ words′ (x .second) (n ∙ e) (fair .lent (partsTold s (dressed f p))) in
       inl (record {
         request = t;
         list = ap (λ (z : Sizes). pairList (z .h) first second) (same-sizes (r .before) x);
@@ -141,11 +143,11 @@ module _ (s : Sizes) (f : ℕ → ℕ) (below : (stamp : ℕ) → f stamp < leav
       → Round s u q asked places words → Fair s p Extract places′ words′
       → Pair u v q p (begin asked places ∷ finish words ∷ cs) (begin extract places′ ∷ finish words′ ∷ ds)
       → Meets u v q p Extract asked extract places words places′ words′ cs ds
-  unfolding leaving listOf countsFor
+  unfolding leaving listOf
   extract-meets {u} {v} q p {cs} {ds} {places′ = places′} {words′ = words′} r fair x =
-      let n = idle-begin s v (dressed f p) (x .second) extract places′ (fair .room) in
+      let n = idle-begin s v (dressed f p) (x .second) extract places′ (fair .room (partsOf (v .card))) in
       let e = extract-again (u .card) (v .card) (same-sizes (r .before) x) (same-t (r .before) x) (same-c (r .before) x) (r .request) in
-      let t = round-passes s v (dressed f p) extract places′ words′ (x .second) (n ∙ e) (fair .lent) in
+      let t = round-passes s v (dressed f p) extract places′ words′ (x .second) (n ∙ e) (fair .lent (partsTold s (dressed f p))) in
       let ours = idle-least s u q (r .before) (extract-live r) in
       let h : There q extractMin = (eventOf (u .card .least), ours) in
       let k = there-second both-extract q p h (x .same-many) fair in
@@ -171,11 +173,11 @@ module _ (s : Sizes) (f : ℕ → ℕ) (below : (stamp : ℕ) → f stamp < leav
       → Fair s p (Delete label′ stamp′) places′ words′
       → Pair u v q p (begin asked places ∷ finish words ∷ cs) (begin (delete {label = label′} {stamp = stamp′}) places′ ∷ finish words′ ∷ ds)
       → Meets u v q p (Delete label′ stamp′) asked (delete {label = leaf (f (stamp′ .0))} {stamp = stamp′}) places words places′ words′ cs ds
-  unfolding leaving listOf countsFor
+  unfolding leaving listOf
   delete-meets {u} {v} q p {cs} {ds} {label} {label′} {stamp} {stamp′} {places′ = places′} {words′ = words′} r h fair x =
       let own = leaf (f (stamp′ .0)) in
       let deleted = delete {label = own} {stamp = stamp′} in
-      let n = idle-begin s v (dressed f p) (x .second) deleted places′ (fair .room) in
+      let n = idle-begin s v (dressed f p) (x .second) deleted places′ (subst (λ (m : ℕ). m ≤ length places′) (path-places s label′ own label′ own stamp′ stamp′) (fair .room (partsOf (v .card)))) in
       let live : has (ref (f (stamp′ .0)) (stamp′ .0)) (dressed f p .events) ≡ true = has-dress f (stamp′ .0) (p .events) (x .bare) ∙ fair .sound in
       let (event, inside, is) = has-one (ref (f (stamp′ .0)) (stamp′ .0)) (dressed f p .events) live in
       let earlier : stamp′ .0 < u .card .t =
@@ -183,7 +185,8 @@ module _ (s : Sizes) (f : ℕ → ℕ) (below : (stamp : ℕ) → f stamp < leav
       let e =
       delete-again (u .card) (v .card) (same-sizes (r .before) x) (same-t (r .before) x) (same-c (r .before) x) label own stamp stamp′ (r .request)
       (subst (λ (z : Sizes). f (stamp′ .0) < leavesOf (z .h)) (sym (r .before .stands .sizes)) (below (stamp′ .0))) earlier in
-      let t = round-passes s v (dressed f p) deleted places′ words′ (x .second) (n ∙ e) (fair .lent) in
+      let t = round-passes s v (dressed f p) deleted places′ words′ (x .second) (n ∙ e)
+      (subst (λ (m : ℕ). m ≤ length words′) (path-words s label′ own label′ own stamp′ stamp′) (fair .lent (partsOf (v .card)))) in
       let leave =
       both-leave q p (asks (Delete label stamp)) (remove (ref 0 (stamp′ .0))) (requests cs) (blanks ds) (refOf label stamp) (ref 0 (stamp′ .0)) (x .leave) refl refl in
       let head : f (stamp′ .0) ≡ label .0 = head-eq-of-cons-eq leave in

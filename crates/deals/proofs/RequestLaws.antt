@@ -14,8 +14,8 @@ use Rattle.path.specs.Sizes.{leavesOf}
 use Rattle.refusal.specs.Refusal.{firstGiven}
 use Rattle.root.specs.Root.{rootFull}
 use Rattle.card.specs.declared.Card.{Card}
-use Rattle.request.specs.declared.Waiting.{Waiting}
-use Rattle.request.specs.declared.Waiting.the-variants.{Insert, Extract, Delete}
+use Rattle.request.specs.declared.Request.{Request}
+use Rattle.request.specs.declared.Request.the-variants.{Insert, Extract, Delete}
 use Rattle.answers.specs.declared.Answer.{Answer}
 use Rattle.answers.specs.declared.Answer.the-variants.{Started, Listed, Least, Withdrawn, Inserted, Extracted, Deleted, Refused}
 use Rattle.request.specs.Tables.{insertRows, deleteRows, requestRows}
@@ -28,7 +28,7 @@ use Rattle.deals.specs.Sequences.{well}
 -- ---- another card of these sizes and counts
 module _ (k m : Card) (sizes : m .sizes ≡ k .sizes) (time : m .t ≡ k .t) (count : m .c ≡ k .c) where
   -- its table is the one of the first with its own root
-  as-first : (w : Waiting) → firstGiven (requestTable m w) ≡ firstGiven (requestRows (k .sizes) (k .t) (k .c) (m .root) w)
+  as-first : (w : Request) → firstGiven (requestTable m w) ≡ firstGiven (requestRows (k .sizes) (k .t) (k .c) (m .root) w)
   as-first w = λ i. firstGiven (requestRows (sizes i) (time i) (count i) (m .root) w)
 
   -- an Insert with another key and label, both proper, is taken or overflows

@@ -20,28 +20,30 @@ use Rattle.refusal.specs.Refusal.{firstGiven}
 use Rattle.refusal.proofs.RefusalLaws.{none-given}
 use Rattle.judge.specs.BadParts.{stampOf}
 use Rattle.rack.proofs.ListedLaws.{listed-laid}
-use Rattle.request.specs.declared.Waiting.{Waiting}
-use Rattle.request.specs.declared.Waiting.the-variants.{Nothing}
+use Rattle.request.specs.declared.Request.{Request}
+use Rattle.request.specs.declared.Waiting.the-variants.{Nothing, For}
+use Rattle.request.specs.Job.{jobOf}
 use Rattle.answers.specs.declared.Answer.{Answer}
 use Rattle.answers.specs.declared.Answer.the-variants.{Started, Listed, Least, Withdrawn, Inserted, Extracted, Deleted, Refused}
 use Rattle.answers.specs.Answers.{numberOf}
 use Rattle.card.specs.Answers.{orRefused}
 use Rattle.request.specs.Tables.{waits}
-use Rattle.card.specs.Tables.{requestTable}
+use Rattle.card.specs.Tables.{partsOf, requestTable}
 use Rattle.card.specs.BadCard.{badCard}
-use Rattle.listing.specs.Listing.{placesFor}
-use Rattle.card.specs.Calls.{listOf, beginTable, begun as begunDone, minTable, foundMin}
+use Rattle.listing.specs.Listing.{placesAsked, wordsAsked}
+use Rattle.checks.specs.Checks.{callRows}
+use Rattle.card.specs.Calls.{callTable, listOf, beginTable, begun as begunDone, minTable, foundMin}
 use Rattle.card.proofs.AnswerLaws.{number-given}
 use Rattle.card.proofs.BeginLaws.{accepted, request-refused, room-enough}
 use Rattle.served.proofs.CallLaws.{ready-card}
 use Rattle.demands.specs.Queue.{Event, Queue, leastEvent, next, reply}
 use Rattle.demands.specs.World.{World, Asked, insert, extract, delete, Call, begin, finish, findMin, Outcome, held, step}
 use Rattle.demands.specs.Says.{eventOf, asks, says}
-use Rattle.demands.specs.Refusals.{wordsToFetch}
+use Rattle.demands.specs.Refusals.{partsTold}
 use Rattle.demands.proofs.AnswerLaws.{least-told}
 use Rattle.demands.proofs.StepLaws.{Holds, Plays}
 use Rattle.demands.proofs.Demand2.{plays}
-use Rattle.demands.proofs.JobLaws.{passed, allowed}
+use Rattle.demands.proofs.RoundLaws.{passed, allowed}
 use Rattle.deals.specs.Trace.{storedBack, numberGiven, seen, askedFor}
 use Rattle.deals.specs.Sequences.{well}
 
@@ -60,7 +62,7 @@ pub passes-well : (u : World) (c : Call) → well (step u c .answer) ≡ true �
 passes-well u c e = well-numbered (step u c .answer) e
 
 -- ---- a begin
-module _ (u : World) {w : Waiting} (asked : Asked w) (places : List ℕ) where
+module _ (u : World) {w : Request} (asked : Asked w) (places : List ℕ) where
   abbrev n : ℕ
   n = firstGiven (beginTable (u .card) w (length places))
 
@@ -125,12 +127,12 @@ module _ (s : Sizes) (u : World) (q : Queue) (i : Idle s u q) where
       omega (arith, known-below (stampOf (u .card .t)) (y .stamp) (proper .stamp), ap (λ (e : Event). e .ref .stamp) is)
 
   -- a begin with room for its list is refused for its request alone
-  pub idle-begin : {w : Waiting} (asked : Asked w) (places : List ℕ)
-      → placesFor (s .h) w ≤ length places
+  pub idle-begin : {w : Request} (asked : Asked w) (places : List ℕ)
+      → placesAsked (s .h) (jobOf (partsOf (u .card)) w) ≤ length places
       → numberGiven (step u (begin asked places)) ≡ firstGiven (requestTable (u .card) w)
   idle-begin {w} asked places room =
       let m = firstGiven (requestTable (u .card) w) in
-      let own = subst (λ (z : Sizes). placesFor (z .h) w ≤ length places) (sym (i .stands .sizes)) room in
+      let own = subst (λ (z : Sizes). placesAsked (z .h) (jobOf (partsOf (u .card)) w) ≤ length places) (sym (i .stands .sizes)) room in
       begin-number u asked places ∙ elim (dichotomy (eqb m 0)) [
         | inl f ↦ request-refused (u .card) w (length places) idle-fine idle-waits (eqb-false m 0 f)
         | inr t ↦ room-enough (u .card) w (length places) idle-fine idle-waits (eqb-true m 0 t) own ∙ sym (eqb-true m 0 t)
@@ -155,7 +157,7 @@ module _ (u : World) where
 
   -- "it checks 13, 2 and 8 only"
   pub look-some : numberGiven (step u findMin) ≡ 0 → u .card .c ≡ 0 → ⊥
-  unfolding minTable
+  unfolding callTable callRows
   look-some e =
       let a = none-given 13 (badCard (u .card)) _ (omega arith) (sym look-number ∙ e) in
       let b = none-given 2 (waits (u .card .waiting)) _ (omega arith) (a .1) in
@@ -164,20 +166,20 @@ module _ (u : World) where
 
   module _ (s : Sizes) (q : Queue) (i : Idle s u q) where
     pub look-passes : (u .card .c ≡ 0 → ⊥) → numberGiven (step u findMin) ≡ 0
-    unfolding minTable firstGiven
+    unfolding callTable callRows firstGiven
     look-passes h = look-number ∙ rw (idle-fine s u q i, idle-waits s u q i, ne-eqb (u .card .c) 0 h)
 
     pub look-idle : numberGiven (step u findMin) ≡ 0 → Idle s (step u findMin .world) q
     look-idle e = passed (plays s u Nothing q i findMin) e .holds
 
 -- ---- a request, begun and finished
-abbrev pub begunBy : World → {w : Waiting} → Asked w → List ℕ → World
+abbrev pub begunBy : World → {w : Request} → Asked w → List ℕ → World
 begunBy u asked places = step u (begin asked places) .world
 
-abbrev pub doneBy : World → {w : Waiting} → Asked w → (places words : List ℕ) → Outcome
+abbrev pub doneBy : World → {w : Request} → Asked w → (places words : List ℕ) → Outcome
 doneBy u asked places words = step (begunBy u asked places) (finish words)
 
-module _ (s : Sizes) (u : World) (q : Queue) {w : Waiting} (asked : Asked w) (places words : List ℕ) where
+module _ (s : Sizes) (u : World) (q : Queue) {w : Request} (asked : Asked w) (places words : List ℕ) where
   abbrev begun : World
   begun = begunBy u asked places
 
@@ -199,11 +201,11 @@ module _ (s : Sizes) (u : World) (q : Queue) {w : Waiting} (asked : Asked w) (pl
 
   module _ (i : Idle s u q) (b : numberGiven (step u (begin asked places)) ≡ 0) where
     -- its request is then pending
-    abbrev begun-holds : Holds s begun w q
+    abbrev begun-holds : Holds s begun (For w) q
     begun-holds = passed (plays s u Nothing q i (begin asked places)) b .holds
 
-    ending : Plays s begun w q (finish words) done
-    ending = plays s begun w q begun-holds (finish words)
+    ending : Plays s begun (For w) q (finish words) done
+    ending = plays s begun (For w) q begun-holds (finish words)
 
     pub round : numberGiven done ≡ 0 → Round
     round f =
@@ -220,12 +222,6 @@ module _ (s : Sizes) (u : World) (q : Queue) {w : Waiting} (asked : Asked w) (pl
         }
 
     -- with words enough it is finished
-    asked-waits : {x : Waiting} → Asked x → waits x ≡ true
-    unfolding waits
-    asked-waits (insert word) = refl
-    asked-waits extract = refl
-    asked-waits delete = refl
-
-    pub round-passes : wordsToFetch s w ≤ length words → Round
-    unfolding firstGiven
-    round-passes lent = round (allowed ending (rw (asked-waits asked, le-ltb _ _ lent)) .answers .passes)
+    pub round-passes : wordsAsked s (jobOf (partsTold s q) w) ≤ length words → Round
+    unfolding callRows firstGiven waits
+    round-passes lent = round (allowed ending (rw (le-ltb _ _ lent)) .answers .passes)

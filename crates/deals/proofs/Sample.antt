@@ -3,15 +3,18 @@
 -- second to an Overflow, and the rack sees the same until then. Assumes nothing.
 use Prim.Native.Nat.{ℕ, _<_, _≤_}
 use mathlib.Core.List.{List, [], _∷_, map, flatMap}
-use mathlib.Core.Path.{_≡_, refl}
+use mathlib.Core.Path.{_≡_, refl, sym, subst}
 use native.Mathlib.Omega.{arith}
-use lib.ListN.{replicate, getD}
+use lib.ListN.{length, replicate, getD}
 use Rattle.record.specs.Many.{every, reals, bears, stampTwice}
 use Rattle.record.specs.Order.{noLater, smallerBy, smallestBy}
 use Rattle.record.specs.Standing.{dummyKey, same, isDummy, known, isProper, mayStand}
 use Rattle.record.specs.Words.{records, wordsOf}
 use Rattle.path.specs.declared.sizes.Sizes.{Sizes}
-use Rattle.lists.specs.BucketList.{pairList, pathList, sum, wordsMoved}
+use Rattle.record.specs.declared.Leaf.{Leaf}
+use Rattle.lists.specs.BucketList.{pairList, pathList, numbers, counts, fetchedFor, sum, wordsMoved}
+use Rattle.lists.specs.declared.Listed.{Listed as Counts}
+use Rattle.lists.proofs.ListLaws.{pair-counts, path-counts, length-pair-numbers, length-path-numbers}
 use Rattle.path.specs.Path.{number, pathBucket, holds, siblingOf, upFrom, path}
 use Rattle.path.specs.Sizes.{sizesOf, between, treeIn, inRange}
 use Rattle.refusal.specs.Refusal.{firstGiven}
@@ -30,13 +33,13 @@ use Rattle.damage.specs.Damaged.{pathDamaged, pairDamaged}
 use Rattle.settle.specs.Left.{removal, insertion, removalDamaged, insertionDamaged}
 use Rattle.rack.specs.Answers.{anyOutside}
 use Rattle.copies.specs.Copy.{stored}
-use Rattle.request.specs.declared.Waiting.{Waiting}
+use Rattle.request.specs.declared.Request.{Request}
 use Rattle.answers.specs.Answers.{valuesOf}
 use Rattle.card.specs.Answers.{orRefused}
 use Rattle.card.specs.BadCard.{badCard}
-use Rattle.listing.specs.Listing.{countsFor}
-use Rattle.card.specs.Calls.{listOf, beginTable, minTable}
-use Rattle.card.specs.Finish.{leftBy, damagedBy, entryTable, finishedBy}
+use Rattle.checks.specs.Checks.{callRows}
+use Rattle.card.specs.Calls.{callTable, listOf}
+use Rattle.card.specs.Finish.{leftBy, damagedBy, finishedBy}
 use Rattle.request.specs.Tables.{insertRows, extractRows, deleteRows, requestRows, waits}
 use Rattle.demands.specs.Queue.{Queue, leastEvent, has, takenOut, next}
 use Rattle.demands.specs.World.{freshWorld, Asked, insert, extract, delete, Call, begin, finish, findMin, Outcome, step, outcomes}
@@ -47,7 +50,7 @@ use Rattle.deals.specs.Dealing.{leaving, paired, deal, dealt}
 use Rattle.deals.specs.Demand3.{Twins}
 
 -- ---- calls, with lists and words that are long enough
-abbrev asks : {w : Waiting} → Asked w → Call
+abbrev asks : {w : Request} → Asked w → Call
 asks a = begin a (replicate 6 0)
 
 abbrev ends : Call
@@ -60,13 +63,22 @@ abbrev deletes : (label stamp : ℕ) → Call
 deletes label stamp = asks (delete {label = leaf label} {stamp = record { 0 = stamp }})
 
 -- in a tree of height 2 with one slot a bucket they are long enough for each request
-enough : (r : ℕ) {q : Queue} {w : Waiting} → Asked w → Sound q (unlabelled (wants w)) → Fair (sizesOf 2 1 r 16) q w (replicate 6 0) (replicate 40 0)
-unfolding countsFor
-enough r (insert word) h = record { sound = h; room = omega arith; lent = omega arith }
-enough r extract h = record { sound = h; room = omega arith; lent = omega arith }
-enough r delete h = record { sound = h; room = omega arith; lent = omega arith }
+two-paths : (first second : Leaf) → (length (numbers (pairList 2 first second)) ≤ 6) × (fetchedFor 1 (counts (pairList 2 first second)) ≤ 40)
+two-paths first second = (
+  omega (arith, length-pair-numbers 2 first second (omega arith)),
+  subst (λ (n : Counts). fetchedFor 1 n ≤ 40) (sym (pair-counts 2 first second (omega arith))) (omega arith),
+)
 
-lent-enough : (r : ℕ) {q : Queue} {w : Waiting} (a : Asked w) {cs : List Call} → Sound q (unlabelled (wants w))
+one-path : (q : Leaf) → (length (numbers (pathList 2 q)) ≤ 6) × (fetchedFor 1 (counts (pathList 2 q)) ≤ 40)
+one-path q = (omega (arith, length-path-numbers 2 q), subst (λ (n : Counts). fetchedFor 1 n ≤ 40) (sym (path-counts 2 q)) (omega arith))
+
+enough : (r : ℕ) {q : Queue} {w : Request} → Asked w → Sound q (unlabelled (wants w)) → Fair (sizesOf 2 1 r 16) q w (replicate 6 0) (replicate 40 0)
+enough r (insert {first = first} {second = second} word) h =
+    record { sound = h; room = λ p. two-paths first second .0; lent = λ p. two-paths first second .1 }
+enough r extract h = record { sound = h; room = λ p. one-path (p .least .label) .0; lent = λ p. one-path (p .least .label) .1 }
+enough r (delete {label = label}) h = record { sound = h; room = λ p. one-path label .0; lent = λ p. one-path label .1 }
+
+lent-enough : (r : ℕ) {q : Queue} {w : Request} (a : Asked w) {cs : List Call} → Sound q (unlabelled (wants w))
     → Valid (sizesOf 2 1 r 16) (next q (unlabelled (wants w))) cs → Valid (sizesOf 2 1 r 16) q (asks a ∷ ends ∷ cs)
 lent-enough r a h later = request (enough r a h) later
 
@@ -176,7 +188,7 @@ unfolding every reals bears stampTwice noLater smallerBy smallestBy same isDummy
     pulls evictUp evict slotsAt inOrder kids named found removed wholeAt siblingAt siblingsShown slotsShown wayShown
     pathWords pathBuckets leastAfter seated sound pathSound siblingsSound kidsShown leastsTrue pathDamaged
     pairDamaged removal insertion removalDamaged insertionDamaged anyOutside stored orRefused badCard listOf
-    beginTable minTable countsFor leftBy damagedBy entryTable finishedBy insertRows extractRows deleteRows
+    callTable callRows leftBy damagedBy finishedBy insertRows extractRows deleteRows
     requestRows waits step outcomes flatMap seen trace untilOverflow deal paired leaving leastEvent has takenOut labels labelled clean
 worked =
     let key : (n : ℕ) → n ≤ 7 → n < dummyKey = λ n h. omega arith in (

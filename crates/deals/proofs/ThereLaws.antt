@@ -8,10 +8,10 @@ use native.Mathlib.Omega.{arith}
 use lib.ListN.{length, length-append}
 use Rattle.path.specs.declared.sizes.Sizes.{Sizes}
 use Rattle.path.specs.Sizes.{leavesOf}
-use Rattle.request.specs.declared.Waiting.{Waiting}
-use Rattle.request.specs.declared.Waiting.the-variants.{Extract}
+use Rattle.request.specs.declared.Request.{Request}
+use Rattle.request.specs.declared.Request.the-variants.{Extract}
 use Rattle.card.proofs.BeginLaws.{insertable, extractable}
-use Rattle.demands.specs.Queue.{Event, Queue, Request, insert, findMin, extractMin, delete, nothing, next}
+use Rattle.demands.specs.Queue.{Event, Queue, Operation, insert, findMin, extractMin, delete, nothing, next}
 use Rattle.demands.specs.World.{World, Asked, Call, begin, finish, withdraw, findMin as looksAt}
 use Rattle.demands.specs.World.{insert as puts, extract as extracts, delete as deletes}
 use Rattle.demands.specs.Says.{eventOf, asks}
@@ -23,14 +23,14 @@ use Rattle.deals.proofs.RequestLaws.{well-found}
 use Rattle.deals.proofs.TwinLaws.{OneKind, both-insert, both-extract, both-delete, Twin, ended, looked, taken}
 
 -- ---- how many are live after a request
-abbrev grown : Request → ℕ → ℕ
+abbrev grown : Operation → ℕ → ℕ
 grown (insert key value label) n = suc n
 grown findMin n = n
 grown extractMin n = n - 1
 grown (delete r) n = n - 1
 grown nothing n = n
 
-next-length : (q : Queue) (r : Request) → There q r → length (next q r .events) ≡ grown r (length (q .events))
+next-length : (q : Queue) (r : Operation) → There q r → length (next q r .events) ≡ grown r (length (q .events))
 next-length q (insert key value label) h = simp length-append (omega arith)
 next-length q findMin h = refl
 next-length q extractMin h =
@@ -48,7 +48,7 @@ some-live (List·Memᴰ·tail m) = omega arith
 pub extract-live : {s : Sizes} {u : World} {q : Queue} {asked : Asked Extract} {places words : List ℕ} → Round s u q asked places words → 1 ≤ u .card .c
 extract-live {u = u} r = omega (arith, extractable (u .card) (r .request) .some)
 
-pub there-first : {s : Sizes} {u : World} {q : Queue} {w x : Waiting} {asked : Asked w} {places words : List ℕ} → OneKind w x
+pub there-first : {s : Sizes} {u : World} {q : Queue} {w x : Request} {asked : Asked w} {places words : List ℕ} → OneKind w x
     → (r : Round s u q asked places words) → well (doneBy u asked places words .answer) ≡ true → There q (asks w)
 there-first both-insert r f = tt
 there-first {s} {u} {q} both-extract r f = (eventOf (u .card .least), idle-least s u q (r .before) (extract-live r))
@@ -60,7 +60,7 @@ twin-first (looked i n t) = (tt, twin-first t)
 twin-first (taken same r f fair t) = (there-first same r f, (tt, twin-first t))
 
 -- ---- the second
-pub there-second : {s : Sizes} {w x : Waiting} {places words : List ℕ} → OneKind w x → (q p : Queue) → There q (asks w)
+pub there-second : {s : Sizes} {w x : Request} {places words : List ℕ} → OneKind w x → (q p : Queue) → There q (asks w)
     → length (q .events) ≡ length (p .events) → Fair s p x places words → There p (unlabelled (asks x))
 there-second both-insert q p h n fair = tt
 there-second both-extract q p h n fair =
@@ -68,13 +68,13 @@ there-second both-extract q p h n fair =
     least-some (p .events) (omega (arith, some-live (least-in (q .events) m least), n))
 there-second both-delete q p h n fair = fair .sound
 
-same-grown : {w x : Waiting} → OneKind w x → (n : ℕ) → grown (asks w) n ≡ grown (unlabelled (asks x)) n
+same-grown : {w x : Request} → OneKind w x → (n : ℕ) → grown (asks w) n ≡ grown (unlabelled (asks x)) n
 same-grown both-insert n = refl
 same-grown both-extract n = refl
 same-grown both-delete n = refl
 
 -- both stay of one length
-pub length-after : {w x : Waiting} → OneKind w x → (q p : Queue) → There q (asks w) → There p (unlabelled (asks x))
+pub length-after : {w x : Request} → OneKind w x → (q p : Queue) → There q (asks w) → There p (unlabelled (asks x))
     → length (q .events) ≡ length (p .events) → length (next q (asks w) .events) ≡ length (next p (unlabelled (asks x)) .events)
 length-after {w} {x} same q p h k n =
     next-length q (asks w) h ∙ ap (grown (asks w)) n ∙ same-grown same (length (p .events)) ∙ sym (next-length p (unlabelled (asks x)) k)

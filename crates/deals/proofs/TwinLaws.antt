@@ -9,8 +9,8 @@ use lib.ListN.{length}
 use Rattle.record.specs.declared.Leaf.{Leaf}
 use Rattle.record.specs.declared.Stamp.{Stamp}
 use Rattle.path.specs.declared.sizes.Sizes.{Sizes}
-use Rattle.request.specs.declared.Waiting.{Waiting}
-use Rattle.request.specs.declared.Waiting.the-variants.{Insert, Extract, Delete}
+use Rattle.request.specs.declared.Request.{Request}
+use Rattle.request.specs.declared.Request.the-variants.{Insert, Extract, Delete}
 use Rattle.demands.specs.Queue.{Queue, next}
 use Rattle.demands.specs.World.{World, Asked, insert, extract, delete, Call, begin, finish, withdraw, findMin, step}
 use Rattle.demands.specs.Says.{asks}
@@ -19,15 +19,15 @@ use Rattle.deals.specs.Sequences.{Kind, inserts, extracts, deletes, fini
 use Rattle.deals.proofs.RoundLaws.{passes-well, Idle, begunBy, doneBy, Round, round, look-idle}
 
 -- ---- requests of one kind
-pub data OneKind : Waiting → Waiting → Type 0 where
+pub data OneKind : Request → Request → Type 0 where
   both-insert : {key value key′ value′ : ℕ} {label label′ first second : Leaf}
       → OneKind (Insert key value label first second) (Insert key′ value′ label′ first second)
   both-extract : OneKind Extract Extract
   both-delete : {label label′ : Leaf} {stamp stamp′ : Stamp} → OneKind (Delete label stamp) (Delete label′ stamp′)
 
 -- a begin of a request of one kind with this
-data Begins : Waiting → Call → Type 0 where
-  begins : {w x : Waiting} {asked : Asked w} {places : List ℕ} → OneKind w x → Begins x (begin asked places)
+data Begins : Request → Call → Type 0 where
+  begins : {w x : Request} {asked : Asked w} {places : List ℕ} → OneKind w x → Begins x (begin asked places)
 
 data Finishes : Call → Type 0 where
   finishing : {words : List ℕ} → Finishes (finish words)
@@ -55,7 +55,7 @@ shape findMin = looking
 shaped : (k : Kind) (c : Call) → k ≡ kindOf c → Shape k c
 shaped k c e = subst (λ (x : Kind). Shape x c) (sym e) (shape c)
 
-begins-one : {x : Waiting} (asked : Asked x) (c : Call) → kindAsked asked ≡ kindOf c → Begins x c
+begins-one : {x : Request} (asked : Asked x) (c : Call) → kindAsked asked ≡ kindOf c → Begins x c
 begins-one (insert {key} {value} {label} {first} {second} word) c e = shaped (inserts first second) c e key value label
 begins-one extract c e = shaped extracts c e
 begins-one (delete {label} {stamp}) c e = shaped deletes c e label stamp
@@ -65,7 +65,7 @@ pub data Twin (s : Sizes) : World → Queue → Queue → List Call → List Cal
   ended : {u : World} {q p : Queue} → Idle s u q → Twin s u q p [] []
   looked : {u : World} {q p : Queue} {cs ds : List Call} → Idle s u q → numberGiven (step u findMin) ≡ 0
       → Twin s (step u findMin .world) q p cs ds → Twin s u q p (findMin ∷ cs) (findMin ∷ ds)
-  taken : {u : World} {q p : Queue} {w x : Waiting} {asked : Asked w} {asked′ : Asked x} {places words places′ words′ : List ℕ}
+  taken : {u : World} {q p : Queue} {w x : Request} {asked : Asked w} {asked′ : Asked x} {places words places′ words′ : List ℕ}
       {cs ds : List Call} → OneKind w x → Round s u q asked places words → well (doneBy u asked places words .answer) ≡ true
       → Fair s p x places′ words′
       → Twin s (doneBy u asked places words .world) (next q (asks w)) (next p (unlabelled (asks x))) cs ds
@@ -90,7 +90,7 @@ module _ (s : Sizes) where
       let n = passes-well u findMin (clean-here u findMin cs k) in
       looked i n (later (step u findMin .world) (look-idle u s q i n) (clean-later u findMin cs k))
 
-  twin-take : {c d : Call} {x : Waiting} {u : World} {q p : Queue} {asked′ : Asked x} {places′ words′ : List ℕ} {cs ds : List Call}
+  twin-take : {c d : Call} {x : Request} {u : World} {q p : Queue} {asked′ : Asked x} {places′ words′ : List ℕ} {cs ds : List Call}
       → Begins x c → Finishes d → Fair s p x places′ words′ → Idle s u q → clean u (c ∷ d ∷ cs) ≡ true
       → ((v : World) (r : Queue) → Idle s v r → clean v cs ≡ true → Twin s v r (next p (unlabelled (asks x))) cs ds)
       → Twin s u q p (c ∷ d ∷ cs) (begin asked′ places′ ∷ finish words′ ∷ ds)

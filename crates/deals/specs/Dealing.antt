@@ -5,7 +5,7 @@ use mathlib.Core.Bool.{cond}
 use mathlib.Core.List.{List, [], _∷_, _++_, map}
 use mathlib.Core.Option.{Option, none, some}
 use lib.Dec.{eqb}
-use Rattle.demands.specs.Queue.{Reference, Event, Queue, Request, insert, findMin, extractMin, delete, nothing, emptyQueue, leastEvent, next}
+use Rattle.demands.specs.Queue.{Reference, Event, Queue, Operation, insert, findMin, extractMin, delete, nothing, emptyQueue, leastEvent, next}
 use Rattle.demands.specs.World.{Call}
 use Rattle.deals.specs.Sequences.{requests, blanks, labelled}
 
@@ -14,7 +14,7 @@ abbrev pub refIn : Option Event → List Reference
 refIn none = []
 refIn (some e) = e .ref ∷ []
 
-abbrev pub gone : Queue → Request → List Reference
+abbrev pub gone : Queue → Operation → List Reference
 gone q (insert key value label) = []
 gone q findMin = []
 gone q extractMin = refIn (leastEvent (q .events))
@@ -24,7 +24,7 @@ gone q nothing = []
 abbrev pub refs : List Event → List Reference
 refs es = map (λ e. e .ref) es
 
-unfoldable pub leaving : Queue → List Request → List Reference
+unfoldable pub leaving : Queue → List Operation → List Reference
 leaving q [] = refs (q .events)
 leaving q (r ∷ rs) = gone q r ++ leaving (next q r) rs
 

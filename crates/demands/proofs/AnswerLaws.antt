@@ -1,15 +1,16 @@
 -- What a ready card answers, and which events are then live, in the plain queue's words: for FindMin, and for the finish of
 -- whatever request waits. Assumes nothing.
 use Prim.Native.Nat.{ℕ, suc, _≤_}
-use mathlib.Core.Bool.{true, false, true≢false}
+use mathlib.Core.Bool.{true, false}
 use mathlib.Core.List.{List, [], _∷_, map, map-append, List·Memᴰ, List·Memᴰ·not-nil}
 use mathlib.Core.Option.{some}
-use mathlib.Core.Path.{_≡_, refl, sym, ap, _∙_}
+use mathlib.Core.Path.{_≡_, refl, sym, ap, subst, _∙_}
 use native.Mathlib.Omega.{arith}
+use lib.ListN.{length, length-map}
 use Rattle.record.specs.declared.Stamp.{Stamp}
 use Rattle.record.specs.declared.Record.{Record}
 use Rattle.record.specs.Standing.{isDummy, isProper}
-use Rattle.record.specs.Order.{smallest}
+use Rattle.record.specs.Order.{smallest, smallestBy}
 use Rattle.record.proofs.ManyLaws.{every-each}
 use Rattle.path.specs.Sizes.{leavesOf}
 use Rattle.clearing.specs.Removal.{named, found}
@@ -18,12 +19,13 @@ use Rattle.judge.specs.BadParts.{stampOf}
 use Rattle.settle.specs.Left.{Left}
 use Rattle.copies.specs.Copy.{fetched}
 use Rattle.card.specs.declared.Card.{Card}
-use Rattle.request.specs.declared.Waiting.{Waiting}
-use Rattle.request.specs.declared.Waiting.the-variants.{Nothing, Insert, Extract, Delete}
-use Rattle.request.specs.Tables.{waits}
+use Rattle.request.specs.declared.Request.{Request}
+use Rattle.request.specs.declared.Request.the-variants.{Insert, Extract, Delete}
+use Rattle.request.specs.declared.Waiting.the-variants.{For}
+use Rattle.refusal.specs.Refusal.{firstGiven}
+use Rattle.card.specs.Tables.{partsOf, requestTable}
 use Rattle.card.specs.Calls.{listOf}
-use Rattle.card.specs.Finish.{leftBy, cardLeft, finishedBy, finished}
-use Rattle.card.specs.declared.Done.{Done}
+use Rattle.card.specs.Finish.{leftBy, finishedBy}
 use Rattle.answers.specs.Answers.{numberOf}
 use Rattle.card.proofs.BeginLaws.{extractable}
 use Rattle.good.specs.Live.{without, Ascending}
@@ -32,11 +34,11 @@ use Rattle.good.proofs.FewLaws.{least-live}
 use Rattle.good.proofs.LowLaws.{live-real}
 use Rattle.served.specs.Ready.{Ready}
 use Rattle.served.specs.LiveAfter.{liveAfter}
-use Rattle.served.proofs.CallLaws.{ready-least}
+use Rattle.served.proofs.CallLaws.{ready-least, waiting-taken}
 use Rattle.served.proofs.FinishLaws.{delete-found}
-use Rattle.served.proofs.FinishedLaws.{finished-card}
 use Rattle.demands.specs.Queue.{Queue, leastEvent, withoutThis, next, reply, told, wasFound}
 use Rattle.demands.specs.Says.{eventOf, asks, says}
+use Rattle.demands.specs.Refusals.{recordTold, partsTold}
 use Rattle.demands.proofs.QueueLaws.{least-smallest, has-found, taken-out}
 
 -- the queue of these records
@@ -48,13 +50,12 @@ least-of : (leaves : ℕ) (next : Stamp) (live : List Record) → ((y : Record) 
 least-of leaves next [] k a m i = absurd (List·Memᴰ·not-nil i)
 least-of leaves next (x ∷ xs) k a m i = least-smallest leaves next x xs k a
 
--- a request that waits is finished with no refusal
-pub finished-number : (k : Card) (w : Waiting) (l : Left) → waits w ≡ true → numberOf (finishedBy k w l .answer) ≡ 0
-unfolding waits finishedBy
-finished-number k Nothing l busy = absurd (true≢false (sym busy))
-finished-number k (Insert key value label first second) l busy = refl
-finished-number k Extract l busy = refl
-finished-number k (Delete label stamp) l busy = refl
+-- a request is finished with no refusal
+pub finished-number : (k : Card) (q : Request) (l : Left) → numberOf (finishedBy k q l .answer) ≡ 0
+unfolding finishedBy
+finished-number k (Insert key value label first second) l = refl
+finished-number k Extract l = refl
+finished-number k (Delete label stamp) l = refl
 
 module _ (k : Card) (tree : List ℕ) (live : List Record) (r : Ready k tree live) where
   known : (y : Record) → List·Memᴰ y live → isProper (leavesOf (k .sizes .h)) (stampOf (k .t)) y ≡ true
@@ -65,7 +66,7 @@ module _ (k : Card) (tree : List ℕ) (live : List Record) (r : Ready k tree liv
 
   module _ (some-live : 1 ≤ k .c) where
     in-live : List·Memᴰ (k .least) live
-    in-live = least-live (k .sizes) (k .t) (k .c) (k .root) (k .least) tree live (r .heap) some-live
+    in-live = least-live (partsOf k) (k .root) tree live (r .heap) some-live
 
     -- the root's least record is the first of the least keys
     pub least-told : leastEvent (map eventOf live) ≡ some (eventOf (k .least))
@@ -82,54 +83,50 @@ module _ (k : Card) (tree : List ℕ) (live : List Record) (r : Ready k tree liv
     least-goes =
         rw (least-told, taken-out (k .least .label) (k .least .stamp) live real (r .heap .order), least-found)
 
-  -- ExtractMin waits only while events are live
-  live-extract : k .waiting ≡ Extract → 1 ≤ k .c
-  live-extract e = omega (arith, extractable k (rw e at (r .waiting)) .some)
+  -- the parts of the card are those that the queue tells
+  least-of-live : (es : List Record) → live ≡ es → k .least ≡ recordTold (leastEvent (map eventOf live))
+  unfolding smallestBy leastEvent
+  least-of-live [] e = ready-least k tree live r ∙ rw e
+  least-of-live (x ∷ xs) e = rw (least-told (omega (arith, r .heap .count, ap length e)))
 
-  events-after : (w : Waiting) → k .waiting ≡ w → map eventOf (liveAfter (k .t) live w) ≡ next (queueOf live (k .t)) (asks w) .events
-  unfolding liveAfter
-  events-after Nothing e = refl
-  events-after (Insert key value label first second) e = map-append eventOf live _
-  events-after Extract e = sym (rw (← ready-least k tree live r) (least-goes (live-extract e)))
-  events-after (Delete label stamp) e = sym (taken-out label stamp live real (r .heap .order))
+  pub parts-told : partsOf k ≡ partsTold (k .sizes) (queueOf live (k .t))
+  parts-told =
+      let count = r .heap .count ∙ sym (length-map live eventOf) in
+      let least = least-of-live live refl in
+      λ i. record { sizes = k .sizes; t = k .t; c = count i; least = least i }
 
-  taken-after : (w : Waiting) → waits w ≡ true → suc (k .t) ≡ next (queueOf live (k .t)) (asks w) .taken
-  unfolding waits
-  taken-after Nothing e = absurd (true≢false (sym e))
-  taken-after (Insert key value label first second) e = refl
-  taken-after Extract e = refl
-  taken-after (Delete label stamp) e = refl
+  -- the request that waits
+  module _ (q : Request) (busy : k .waiting ≡ For q) where
+    -- ExtractMin waits only while events are live
+    live-extract : q ≡ Extract → 1 ≤ k .c
+    live-extract e = omega (arith, extractable k (subst (λ (a : Request). firstGiven (requestTable k a) ≡ 0) e (waiting-taken k tree live q r busy)) .some)
 
-  module _ (words : List ℕ) where
-    abbrev shown : Waiting → List ℕ
-    shown w = fetched (k .sizes .z) tree (listOf k w) words
+    events-after : (a : Request) → q ≡ a → map eventOf (liveAfter (k .t) live a) ≡ next (queueOf live (k .t)) (asks a) .events
+    unfolding liveAfter
+    events-after (Insert key value label first second) e = map-append eventOf live _
+    events-after Extract e = sym (rw (← ready-least k tree live r) (least-goes (live-extract e)))
+    events-after (Delete label stamp) e = sym (taken-out label stamp live real (r .heap .order))
 
-    says-so : (w : Waiting) → k .waiting ≡ w → waits w ≡ true
-        → says (finishedBy k w (leftBy k w (shown w)) .answer) ≡ reply (queueOf live (k .t)) (asks w)
-    unfolding waits finishedBy leftBy listOf
-    says-so Nothing e busy = absurd (true≢false (sym busy))
-    says-so (Insert key value label first second) e busy = refl
-    says-so Extract e busy = ap told (sym (least-told (live-extract e)))
-    says-so (Delete label stamp) e busy =
-        ap wasFound (delete-found k tree words live r label stamp e ∙ sym (has-found label stamp live real))
+    -- the queue's events and count after it
+    pub next-events : map eventOf (liveAfter (k .t) live q) ≡ next (queueOf live (k .t)) (asks q) .events
+    next-events = events-after q refl
 
-    module _ (busy : waits (k .waiting) ≡ true) where
-      abbrev out : Done
-      out = finished k (shown (k .waiting))
+    module _ (words : List ℕ) where
+      abbrev shown : Request → List ℕ
+      shown a = fetched (k .sizes .z) tree (listOf k a) words
 
-      -- a finish answers as the queue, and the card that it hands back is the one that the work left
-      pub finish-says : says (out .answer) ≡ reply (queueOf live (k .t)) (asks (k .waiting))
-      finish-says = says-so (k .waiting) refl busy
+      says-so : (a : Request) → q ≡ a → says (finishedBy k a (leftBy k a (shown a)) .answer) ≡ reply (queueOf live (k .t)) (asks a)
+      unfolding finishedBy leftBy listOf
+      says-so (Insert key value label first second) e = refl
+      says-so Extract e = ap told (sym (least-told (live-extract e)))
+      says-so (Delete label stamp) e =
+          ap wasFound (delete-found k tree words live r label stamp (busy ∙ ap For e) ∙ sym (has-found label stamp live real))
 
-      pub finish-numbered : numberOf (out .answer) ≡ 0
-      finish-numbered = finished-number k (k .waiting) _ busy
+      -- a finish answers as the queue
+      pub finish-says : says (finishedBy k q (leftBy k q (shown q)) .answer) ≡ reply (queueOf live (k .t)) (asks q)
+      finish-says = says-so q refl
 
-      pub finish-card : out .card ≡ cardLeft k (leftBy k (k .waiting) (shown (k .waiting)))
-      finish-card = finished-card k (k .waiting) _ busy
-
-  -- the queue's events and count after it
-  pub next-events : map eventOf (liveAfter (k .t) live (k .waiting)) ≡ next (queueOf live (k .t)) (asks (k .waiting)) .events
-  next-events = events-after (k .waiting) refl
-
-  pub next-taken : waits (k .waiting) ≡ true → suc (k .t) ≡ next (queueOf live (k .t)) (asks (k .waiting)) .taken
-  next-taken busy = taken-after (k .waiting) busy
+pub next-taken : (t : ℕ) (live : List Record) (q : Request) → suc t ≡ next (queueOf live t) (asks q) .taken
+next-taken t live (Insert key value label first second) = refl
+next-taken t live Extract = refl
+next-taken t live (Delete label stamp) = refl

@@ -10,7 +10,6 @@ use Rattle.lists.specs.BucketList.{laid}
 use Rattle.card.specs.declared.Card.{Card}
 use Rattle.request.specs.declared.Waiting.{Waiting}
 use Rattle.request.specs.declared.Waiting.the-variants.{Nothing}
-use Rattle.card.specs.Calls.{listOf}
 use Rattle.served.proofs.CallLaws.{start-ready}
 use Rattle.demands.specs.Queue.{Queue, emptyQueue, next}
 use Rattle.demands.specs.World.{World, freshWorld, Call, begin, finish, withdraw, findMin, Outcome, step, outcomes}
@@ -19,7 +18,7 @@ use Rattle.demands.specs.Promised.{Carried, ended as none, called}
 use Rattle.demands.specs.Demand2.{Refuses, Run, ended, refused, answered, Demand2}
 use Rattle.demands.proofs.AnswerLaws.{queueOf}
 use Rattle.demands.proofs.PromisedLaws.{promised-step, outcomes-carried}
-use Rattle.demands.proofs.StepLaws.{Holds, Goes, Plays, plays-begin, plays-withdraw, plays-min}
+use Rattle.demands.proofs.StepLaws.{heldFor, Holds, Goes, Plays, plays-begin, plays-withdraw, plays-min}
 use Rattle.demands.proofs.FinishLaws.{plays-finish}
 
 -- ---- one call on a world that stands
@@ -33,9 +32,9 @@ module _ (s : Sizes) (u : World) (p : Waiting) (q : Queue) (h : Holds s u p q) w
       record {
         card = k;
         tree = u .tree;
-        list = laid (listOf k (k .waiting)) (h .places);
-        whole = length (listOf k (k .waiting) .whole);
-        least = length (listOf k (k .waiting) .least);
+        list = laid (heldFor k (k .waiting)) (h .places);
+        whole = length (heldFor k (k .waiting) .whole);
+        least = length (heldFor k (k .waiting) .least);
       }
 
   same-world : written ≡ u
@@ -56,7 +55,7 @@ module _ (s : Sizes) (u : World) (p : Waiting) (q : Queue) (h : Holds s u p q) w
 
   each : (c : Call) → Plays (k .sizes) written (k .waiting) queue c (step written c)
   each (begin asked lent) = plays-begin k (u .tree) (h .places) (h .stands .live) (h .stands .ready) (h .word) asked lent
-  each (finish words) = plays-finish k (u .tree) (h .places) (h .stands .live) (h .stands .ready) (h .word) words
+  each (finish words) = plays-finish k (u .tree) (h .places) (h .stands .live) (h .stands .ready) (k .waiting) refl (h .word) words
   each withdraw = plays-withdraw k (u .tree) (h .places) (h .stands .live) (h .stands .ready) (h .word)
   each findMin = plays-min k (u .tree) (h .places) (h .stands .live) (h .stands .ready) (h .word)
 
@@ -69,7 +68,6 @@ module _ (s : Sizes) (u : World) (p : Waiting) (q : Queue) (h : Holds s u p q) w
 
 -- ---- a fresh world stands
 pub fresh-holds : (s : Sizes) → inRange s ≡ true → Holds s (freshWorld s) Nothing emptyQueue
-unfolding listOf
 fresh-holds s ok =
     record {
       stands = record { sizes = refl; waiting = refl; live = []; ready = start-ready s ok; events = refl; taken = refl };

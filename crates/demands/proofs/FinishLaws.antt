@@ -1,6 +1,6 @@
 -- A finish on a world that stands, with the rack's fetch before it and its store after it. Assumes nothing.
 use Prim.Native.Nat.{ℕ, zero, suc, _≤_, _<_}
-use mathlib.Core.Bool.{true, false}
+use mathlib.Core.Bool.{false}
 use mathlib.Core.List.{List, [], _++_}
 use mathlib.Core.Logic.{_⊎_, inl, inr}
 use mathlib.Core.Path.{_≡_, refl, sym, ap, _∙_, subst}
@@ -12,32 +12,40 @@ use borrow.Author.Tests.{ltb-true, ltb-false, lt-ltb}
 use Rattle.record.specs.declared.Record.{Record}
 use Rattle.path.specs.Path.{number}
 use Rattle.path.proofs.SizesLaws.{tree-range}
-use Rattle.lists.specs.BucketList.{BucketList, numbers, laid}
+use Rattle.lists.specs.BucketList.{BucketList, noBuckets, numbers, laid}
 use Rattle.refusal.specs.Refusal.{firstGiven}
+use Rattle.parts.specs.declared.Parts.{Parts}
+use Rattle.request.specs.declared.Request.{Request}
+use Rattle.request.specs.declared.Waiting.{Waiting}
+use Rattle.request.specs.declared.Waiting.the-variants.{Nothing, For}
+use Rattle.request.specs.Job.{jobOf}
+use Rattle.listing.specs.Listing.{wordsAsked}
 use Rattle.settle.specs.Left.{Left, wordsLeft}
 use Rattle.copies.specs.Copy.{fetched, stored}
+use Rattle.rack.specs.Answers.{anyOutside}
 use Rattle.rack.proofs.ListedLaws.{listed-laid, laid-passes}
 use Rattle.rack.proofs.RefusalLaws.{refuses-words}
 use Rattle.card.specs.declared.Card.{Card}
+use Rattle.card.specs.declared.Done.{Done}
 use Rattle.answers.specs.declared.Answer.the-variants.{Refused}
 use Rattle.card.specs.Answers.{orRefused}
-use Rattle.request.specs.Tables.{waits}
 use Rattle.card.specs.BadCard.{badCard}
 use Rattle.card.specs.Calls.{listOf}
-use Rattle.card.specs.Finish.{leftBy, cardLeft, wordsNeeded, entryTable, finished}
+use Rattle.card.specs.Finish.{leftBy, cardLeft, wordsNeeded, entryTable, finishedBy, finishedFor, finished, wordsFor}
 use Rattle.card.proofs.FinishLaws.{none-waits, words-short, words-enough}
 use Rattle.card.proofs.FinishedLaws.{entry-decides}
 use Rattle.served.specs.Ready.{Ready}
 use Rattle.served.specs.LiveAfter.{liveAfter}
-use Rattle.served.proofs.CallLaws.{ready-card}
+use Rattle.served.proofs.CallLaws.{ready-card, waiting-taken}
 use Rattle.served.proofs.RackLaws.{list-inside, fetched-room, left-room}
 use Rattle.served.proofs.FinishedLaws.{WordKey, finish-passes, finish-ready}
 use Rattle.demands.specs.Queue.{Queue}
 use Rattle.demands.specs.World.{World, Call, finish, Outcome, finishNumber, rackNumber, shown, finishing, step}
+use Rattle.demands.specs.Refusals.{refusalOf}
 use Rattle.demands.specs.Demand2.{TooFew}
-use Rattle.demands.proofs.AnswerLaws.{queueOf, finish-says, finish-numbered, finish-card, next-events, next-taken}
-use Rattle.demands.proofs.RefusalsLaws.{words-to-fetch, entry-number}
-use Rattle.demands.proofs.StepLaws.{Plays, refused-as}
+use Rattle.demands.proofs.AnswerLaws.{queueOf, parts-told, finished-number, finish-says, next-events, next-taken}
+use Rattle.demands.proofs.RefusalsLaws.{call-number}
+use Rattle.demands.proofs.StepLaws.{heldFor, Worded, Plays, refused-as}
 
 -- ---- the card's number, given or not
 module _ (v : World) (fetch : ℕ) (ws : List ℕ) where
@@ -47,160 +55,189 @@ module _ (v : World) (fetch : ℕ) (ws : List ℕ) where
   finishing-refused zero e h = absurd (h refl)
   finishing-refused (suc n) e h = rw e
 
-module _ (k : Card) (tree places : List ℕ) (live : List Record) (r : Ready k tree live) (word : WordKey (k .waiting)) where
-  abbrev l : BucketList
-  l = listOf k (k .waiting)
-
-  abbrev u : World
-  u = record { card = k; tree = tree; list = laid l places; whole = length (l .whole); least = length (l .least) }
+module _ (k : Card) (tree places : List ℕ) (live : List Record) (r : Ready k tree live) where
+  -- the world whose list is the one of what waits
+  abbrev worldOf : Waiting → World
+  worldOf w = record { card = k; tree = tree; list = laid (heldFor k w) places; whole = length (heldFor k w .whole); least = length (heldFor k w .least) }
 
   abbrev q : Queue
   q = queueOf live (k .t)
 
   -- one call on it
-  abbrev Played : Call → Outcome → Type 0
-  Played c o = Plays (k .sizes) u (k .waiting) q c o
+  abbrev Played : Waiting → Call → Outcome → Type 0
+  Played w c o = Plays (k .sizes) (worldOf w) w q c o
 
   fine : badCard k ≡ false
   fine = ready-card k tree live r
 
-  -- ---- the rack's number for the list that begin laid
-  rack-passes : (ws : List ℕ) → wordsNeeded k ≤ length ws → rackNumber u ws ≡ 0
-  rack-passes ws room =
-      laid-passes l places (k .sizes .h) (k .sizes .z) (length tree) (length ws) (tree-range (k .sizes) (r .heap .sizes)) (r .heap .words)
-      (list-inside k tree live r (k .waiting) (r .waiting)) room
+  told : (w : Waiting) → k .waiting ≡ w → (words : List ℕ) → firstGiven (entryTable k (length words)) ≡ refusalOf (k .sizes) (k .root) w q (finish words)
+  told w e words =
+      subst (λ (v : Waiting). firstGiven (entryTable k (length words)) ≡ refusalOf (k .sizes) (k .root) v q (finish words)) e
+      (call-number k tree live r (finish words))
 
-  rack-short : (ws : List ℕ) → length ws < wordsNeeded k → rackNumber u ws ≡ 11
-  rack-short ws few =
-      let covered = length-map (l .whole ++ l .least) number ∙ length-append (l .whole) (l .least) in
-      sym (refuses-words (record { sizes = tree-range (k .sizes) (r .heap .sizes); whole-tree = r .heap .words }) (laid l places) (length (l .whole)) (length (l .least)) (length ws)
-      (omega (arith, length-append (numbers l) (drop (length (numbers l)) places), covered)) (lt-ltb _ _ few))
+  abbrev Fetches : Waiting → List ℕ → Type 0
+  Fetches w words = (rackNumber (worldOf w) words ≡ 0) ⊎ ((rackNumber (worldOf w) words ≡ 11) × TooFew (k .sizes) w q (finish words))
 
-  fetch-number : (ws : List ℕ) → (rackNumber u ws ≡ 0) ⊎ ((rackNumber u ws ≡ 11) × TooFew (k .sizes) (k .waiting) (finish ws))
-  fetch-number ws = elim (dichotomy (ltb (length ws) (wordsNeeded k))) [
-    | inl f ↦ inl (rack-passes ws (ltb-false _ _ f))
-    | inr t ↦
-        let few = ltb-true _ _ t in
-        inr (rack-short ws few, subst (λ (n : ℕ). length ws < n) (words-to-fetch k tree live r) few)
-  ]
-
-  -- ---- none waits: 3
-  idle-number : (ws : List ℕ) → waits (k .waiting) ≡ false → finishNumber u ws ≡ 3
-  idle-number ws e = entry-decides k ws 3 (sym (none-waits k (length ws) fine e)) (omega arith)
-
-  -- ---- too few words: 11
-  short-number : (ws : List ℕ) → waits (k .waiting) ≡ true → length ws < wordsNeeded k → finishNumber u ws ≡ 11
-  short-number ws e few = entry-decides k ws 11 (sym (words-short k (length ws) fine e few)) (omega arith)
-
-  refused-plays : (ws words : List ℕ) (n : ℕ) → finishNumber u ws ≡ n → (n ≡ 0 → ⊥) → firstGiven (entryTable k (length words)) ≡ n
-      → Played (finish words) (finishing u (rackNumber u words) ws)
-  refused-plays ws words n e h why =
-      subst (Played (finish words)) (finishing-refused u (rackNumber u words) ws n e h)
+  refused-plays : (w : Waiting) → k .waiting ≡ w → (ws words : List ℕ) (n : ℕ) → finishNumber (worldOf w) ws ≡ n → (n ≡ 0 → ⊥)
+      → firstGiven (entryTable k (length words)) ≡ n → Fetches w words
+      → Played w (finish words) (finishing (worldOf w) (rackNumber (worldOf w) words) ws)
+  refused-plays w e ws words n given h why fetch =
+      subst (Played w (finish words)) (finishing-refused (worldOf w) (rackNumber (worldOf w) words) ws n given h)
       (record {
-        rack = record { fetch = fetch-number words; store = refl };
-        card = inl (refused-as (k .sizes) u (k .waiting) q (finish words) _ n refl refl h (sym why ∙ entry-number k tree live r words));
+        rack = record { fetch = fetch; store = refl };
+        card = inl (refused-as (k .sizes) (worldOf w) w q (finish words) _ n refl refl h (sym why ∙ told w e words));
       })
 
-  -- ---- else it is done
-  module _ (words : List ℕ) (busy : waits (k .waiting) ≡ true) (room : wordsNeeded k ≤ length words) where
-    abbrev ws : List ℕ
-    ws = fetched (k .sizes .z) tree l words
+  -- ---- none waits: 3; no bucket is fetched
+  module _ (idle : k .waiting ≡ Nothing) (words : List ℕ) where
+    none-outside : anyOutside (k .sizes .h) (numbers noBuckets) ≡ false
+    unfolding anyOutside
+    none-outside = refl
 
-    abbrev out : Left
-    out = leftBy k (k .waiting) ws
+    idle-fetch : rackNumber (worldOf Nothing) words ≡ 0
+    idle-fetch =
+        laid-passes noBuckets places (k .sizes .h) (k .sizes .z) (length tree) (length words) (tree-range (k .sizes) (r .heap .sizes)) (r .heap .words)
+        none-outside (omega arith)
 
-    -- what is left when fetch, finish and store are done
-    abbrev done : Outcome
-    done =
-        record {
-          world = record {
-            card = cardLeft k out;
-            tree = stored (k .sizes .z) (l .whole) (wordsLeft out ws) tree;
-            list = [];
-            whole = 0;
-            least = 0;
-          };
-          answer = finished k ws .answer;
-          fetch = 0;
-          store = 0;
-        }
+    idle-plays : Played Nothing (finish words) (step (worldOf Nothing) (finish words))
+    unfolding step
+    idle-plays =
+        let ws = shown (worldOf Nothing) words in
+        refused-plays Nothing idle ws words 3 (entry-decides k ws 3 (sym (none-waits k (length ws) fine idle)) (omega arith)) (omega arith)
+        (none-waits k (length words) fine idle) (inl idle-fetch)
 
-    shown-is : shown u words ≡ ws
-    shown-is = rw (rack-passes words room) (ap (λ (m : BucketList). fetched (k .sizes .z) tree m words) (listed-laid l places))
+  -- ---- a request waits
+  module _ (a : Request) (busy : k .waiting ≡ For a) (word : WordKey a) where
+    abbrev l : BucketList
+    l = listOf k a
 
-    passes : finishNumber u ws ≡ 0
-    passes = finish-passes k tree words live r word busy (omega (arith, room, fetched-room (k .sizes .z) tree l words))
+    abbrev u : World
+    u = worldOf (For a)
 
-    stores : rackNumber u (wordsLeft out ws) ≡ 0
-    stores = rack-passes (wordsLeft out ws) (omega (arith, room, fetched-room (k .sizes .z) tree l words, left-room out ws))
-
-    finishing-done : finishing u 0 ws ≡ done
-    unfolding orRefused
-    finishing-done =
-        let card = finish-card k tree live r words busy in
-        let list = listed-laid l places in
-        rw (passes, stores) (λ i.
-        record {
-          world = record {
-            card = card i;
-            tree = stored (k .sizes .z) (list i .whole) (wordsLeft out ws) tree;
-            list = [];
-            whole = 0;
-            least = 0;
-          };
-          answer = finished k ws .answer;
-          fetch = 0;
-          store = 0;
-        })
-
-    done-plays : Played (finish words) done
+    -- the rack's number for the list that begin laid
+    rack-passes : (ws : List ℕ) → wordsNeeded k a ≤ length ws → rackNumber u ws ≡ 0
     unfolding listOf
-    done-plays =
-        record {
-          rack = record { fetch = inl refl; store = refl };
-          card = inr (record {
-            answers = record {
-              passes = finish-numbered k tree live r words busy;
-              why = sym (entry-number k tree live r words) ∙ words-enough k (length words) fine busy room;
-              same = finish-says k tree live r words busy;
+    rack-passes ws room =
+        laid-passes l places (k .sizes .h) (k .sizes .z) (length tree) (length ws) (tree-range (k .sizes) (r .heap .sizes)) (r .heap .words)
+        (list-inside k tree live r a (waiting-taken k tree live a r busy)) room
+
+    rack-short : (ws : List ℕ) → length ws < wordsNeeded k a → rackNumber u ws ≡ 11
+    unfolding listOf
+    rack-short ws few =
+        let covered = length-map (l .whole ++ l .least) number ∙ length-append (l .whole) (l .least) in
+        sym (refuses-words (record { sizes = tree-range (k .sizes) (r .heap .sizes); whole-tree = r .heap .words }) (laid l places) (length (l .whole)) (length (l .least)) (length ws)
+        (omega (arith, length-append (numbers l) (drop (length (numbers l)) places), covered)) (lt-ltb _ _ few))
+
+    -- too few words: 11
+    short-plays : (words : List ℕ) → length words < wordsNeeded k a → Played (For a) (finish words) (finishing u (rackNumber u words) (shown u words))
+    short-plays words few =
+        let same : shown u words ≡ words = rw (rack-short words few) in
+        let number = words-short k (length words) a fine busy few in
+        refused-plays (For a) busy (shown u words) words 11 (rw same (entry-decides k words 11 (sym number) (omega arith))) (omega arith) number
+        (inr (rack-short words few, subst (λ (p : Parts). length words < wordsAsked (p .sizes) (jobOf p a)) (parts-told k tree live r) few))
+
+    -- else it is done
+    module _ (words : List ℕ) (room : wordsNeeded k a ≤ length words) where
+      abbrev ws : List ℕ
+      ws = fetched (k .sizes .z) tree l words
+
+      abbrev out : Left
+      out = leftBy k a ws
+
+      -- what is left when fetch, finish and store are done
+      abbrev done : Outcome
+      done =
+          record {
+            world = record {
+              card = cardLeft k out;
+              tree = stored (k .sizes .z) (l .whole) (wordsLeft out ws) tree;
+              list = [];
+              whole = 0;
+              least = 0;
             };
-            holds = record {
-              stands = record {
-                sizes = refl;
-                waiting = refl;
-                live = liveAfter (k .t) live (k .waiting);
-                ready = finish-ready k tree words live r word busy;
-                events = next-events k tree live r;
-                taken = next-taken k tree live r busy;
+            answer = finishedBy k a out .answer;
+            fetch = 0;
+            store = 0;
+          }
+
+      shown-is : shown u words ≡ ws
+      shown-is = rw (rack-passes words room) (ap (λ (m : BucketList). fetched (k .sizes .z) tree m words) (listed-laid l places))
+
+      passes : finishNumber u ws ≡ 0
+      passes = finish-passes k tree words live r a busy word (omega (arith, room, fetched-room (k .sizes .z) tree l words))
+
+      stores : rackNumber u (wordsLeft out ws) ≡ 0
+      stores = rack-passes (wordsLeft out ws) (omega (arith, room, fetched-room (k .sizes .z) tree l words, left-room out ws))
+
+      done-is : finished k ws ≡ finishedBy k a out
+      done-is = ap (λ (w : Waiting). finishedFor k w ws) busy
+
+      after-is : wordsFor k (k .waiting) ws ≡ wordsLeft out ws
+      after-is = ap (λ (w : Waiting). wordsFor k w ws) busy
+
+      finishing-done : finishing u 0 ws ≡ done
+      unfolding orRefused finishedBy
+      finishing-done =
+          let answer = done-is in
+          let list = listed-laid l places in
+          let words-are = after-is in
+          let number : rackNumber u (wordsFor k (k .waiting) ws) ≡ 0 = ap (rackNumber u) after-is ∙ stores in
+          rw (passes, number) (λ i.
+          record {
+            world = record {
+              card = answer i .card;
+              tree = stored (k .sizes .z) (list i .whole) (words-are i) tree;
+              list = [];
+              whole = 0;
+              least = 0;
+            };
+            answer = answer i .answer;
+            fetch = 0;
+            store = 0;
+          })
+
+      done-plays : Played (For a) (finish words) done
+      done-plays =
+          record {
+            rack = record { fetch = inl refl; store = refl };
+            card = inr (record {
+              answers = record {
+                passes = finished-number k a out;
+                why = sym (told (For a) busy words) ∙ words-enough k (length words) a fine busy room;
+                same = finish-says k tree live r a busy words;
               };
-              word = tt;
-              places = [];
-              list = refl;
-              whole = refl;
-              least = refl;
-            };
-          });
-        }
+              holds = record {
+                stands = record {
+                  sizes = refl;
+                  waiting = refl;
+                  live = liveAfter (k .t) live a;
+                  ready = finish-ready k tree words live r a busy word;
+                  events = next-events k tree live r a busy;
+                  taken = next-taken (k .t) live a;
+                };
+                word = tt;
+                places = [];
+                list = refl;
+                whole = refl;
+                least = refl;
+              };
+            });
+          }
 
-    finished-is : finishing u (rackNumber u words) (shown u words) ≡ done
-    finished-is =
-        let number = rack-passes words room in
-        let words-are = shown-is in
-        let same : finishing u (rackNumber u words) (shown u words) ≡ finishing u 0 ws = λ i. finishing u (number i) (words-are i) in
-        same ∙ finishing-done
+      finished-plays : Played (For a) (finish words) (finishing u (rackNumber u words) (shown u words))
+      finished-plays =
+          let number = rack-passes words room in
+          let words-are = shown-is in
+          let same : finishing u (rackNumber u words) (shown u words) ≡ finishing u 0 ws = λ i. finishing u (number i) (words-are i) in
+          subst (Played (For a) (finish words)) (sym (same ∙ finishing-done)) done-plays
 
-    finished-plays : Played (finish words) (finishing u (rackNumber u words) (shown u words))
-    finished-plays = subst (Played (finish words)) (sym finished-is) done-plays
-
-  pub plays-finish : (words : List ℕ) → Played (finish words) (step u (finish words))
-  unfolding step
-  plays-finish words = elim (dichotomy (waits (k .waiting))) [
-    | inl f ↦ refused-plays (shown u words) words 3 (idle-number (shown u words) f) (omega arith) (none-waits k (length words) fine f)
-    | inr t ↦ elim (dichotomy (ltb (length words) (wordsNeeded k))) [
-      | inl g ↦ finished-plays words t (ltb-false _ _ g)
-      | inr h ↦
-          let few = ltb-true _ _ h in
-          let same : shown u words ≡ words = rw (rack-short words few) in
-          refused-plays (shown u words) words 11 (rw same (short-number words t few)) (omega arith) (words-short k (length words) fine t few)
+    busy-plays : (words : List ℕ) → Played (For a) (finish words) (step u (finish words))
+    unfolding step
+    busy-plays words = elim (dichotomy (ltb (length words) (wordsNeeded k a))) [
+      | inl f ↦ finished-plays words (ltb-false _ _ f)
+      | inr t ↦ short-plays words (ltb-true _ _ t)
     ]
-  ]
+
+  pub plays-finish : (w : Waiting) → k .waiting ≡ w → Worded w → (words : List ℕ) → Played w (finish words) (step (worldOf w) (finish words))
+  plays-finish Nothing idle word words = idle-plays idle words
+  plays-finish (For a) busy word words = busy-plays a busy word words

@@ -9,5 +9,5 @@ pub mod FinishLaws
 pub mod Demand2
 pub mod PromisedLaws
 pub mod Sample
-pub mod JobLaws
+pub mod RoundLaws
 pub mod StandsLaws

@@ -18,14 +18,16 @@ use Rattle.rack.specs.declared.Answer.{Answer as RackAnswer}
 use Rattle.rack.specs.declared.Answer.the-variants.{Done, BadSize, ShortRoom, BadBucket}
 use Rattle.rack.specs.Answers.{answerNumber, fillRefusal}
 use Rattle.rack.specs.Promises.{Fills}
+use Rattle.request.specs.declared.Request.{Request}
 use Rattle.request.specs.declared.Waiting.{Waiting}
+use Rattle.request.specs.declared.Waiting.the-variants.{Nothing, For}
 use Rattle.card.specs.declared.Card.{Card}
 use Rattle.card.specs.declared.Done.{Done as CardDone}
 use Rattle.answers.specs.Answers.{numberOf}
 use Rattle.card.specs.Answers.{orRefused, Answered}
 use Rattle.card.specs.Calls.{startTable, started, zeroCard, Begins, beginTable, begun, listOf, foundMin, withdrawn}
-use Rattle.card.specs.Finish.{finishTable, finished, Finishes}
-use Rattle.card.proofs.FinishLaws.{entry-numbered, entered}
+use Rattle.card.specs.Finish.{finishTable, finishedFor, finished, Finishes}
+use Rattle.card.proofs.FinishLaws.{entry-numbered, some-waits}
 use Rattle.demands.specs.World.{World, Call, begin, finish, withdraw, findMin, Outcome, alone, rackNumber, shown, finishNumber, wordsAfter, storedFrom, finishing, step, outcomes}
 use Rattle.demands.specs.Promised.{Promised, by-begin, by-withdraw, by-min, by-refused, by-finish, Carried, ended, called, holding, told, wholeCount, leastCount, FetchesHeld, StoresHeld}
 use Rattle.demands.proofs.AnswerLaws.{finished-number}
@@ -60,7 +62,7 @@ alone-agree u zero done list list′ whole whole′ least least′ p q r =
     λ i. alone u 0 done (pe i) (qe i) (re i)
 alone-agree u (suc n) done list list′ whole whole′ least least′ p q r = refl
 
-begin-told : (u : World) (w : Waiting) (lent after : List ℕ) (d : CardDone) → Begins (u .card) w lent after d
+begin-told : (u : World) (w : Request) (lent after : List ℕ) (d : CardDone) → Begins (u .card) w lent after d
     → told u d after (wholeCount u d) (leastCount u d) ≡ alone u (firstGiven (beginTable (u .card) w (length lent))) (begun (u .card) w)
     (laid (listOf (u .card) w) lent) (length (listOf (u .card) w .whole)) (length (listOf (u .card) w .least))
 unfolding orRefused
@@ -127,7 +129,7 @@ module _ (u : World) (words ws after : List ℕ) (a : RackAnswer) (d : CardDone)
 -- what the contracts promise of a call is its step
 pub promised-step : {u : World} {c : Call} {o : Outcome} → Promised u c o → o ≡ step u c
 unfolding step
-promised-step {u} (by-begin {w} asked lent after d b) = begin-told u w lent after d b
+promised-step {u} (by-begin {r = w} asked lent after d b) = begin-told u w lent after d b
 promised-step {u} (by-withdraw d a) = alone-told u _ _ d [] 0 0 a
 promised-step {u} (by-min d a) = alone-told u _ _ d (u .list) (u .whole) (u .least) a
 promised-step {u} (by-refused words ws after a d f g n) = refused-so u words ws after a d f g n ∙ fetched-so u words ws after a d f g
@@ -155,9 +157,9 @@ copy-answer u words =
     first-of {P = λ n. (a : RackAnswer) × (answerNumber a ≡ n)} (Done, refl)
     (next 1 (BadSize, refl) (next 11 (ShortRoom, refl) (next 11 (ShortRoom, refl) (next 11 (ShortRoom, refl) (next 14 (BadBucket, refl) none)))))
 
-finish-done : (k : Card) (ws : List ℕ) → firstGiven (finishTable k ws) ≡ 0 → numberOf (finished k ws .answer) ≡ 0
-finish-done k ws e =
-    finished-number k (k .waiting) _ (entered k (length ws) (append-none _ (entry-numbered k (length ws)) e .0) .busy)
+finish-done : (k : Card) (ws : List ℕ) → firstGiven (finishTable k ws) ≡ 0 → (w : Waiting) → k .waiting ≡ w → numberOf (finishedFor k w ws .answer) ≡ 0
+finish-done k ws e Nothing idle = absurd (some-waits k (length ws) (append-none _ (entry-numbered k (length ws)) e .0) idle)
+finish-done k ws e (For r) busy = finished-number k r _
 
 kept : {u : World} {c : Call} {o : Outcome} → Promised u c o → Promised u c (step u c)
 kept {u} {c} p = subst (Promised u c) (promised-step p) p
@@ -171,14 +173,14 @@ finish-promised u words =
     let (b, store) = copy-answer u after in
     let f : FetchesHeld u words a ws = record { number = fetch; lent = refl } in
     let g : Finishes (u .card) ws after d =
-    record { call = answered-so (u .card) (finishNumber u ws) (finished (u .card) ws) (finish-done (u .card) ws); words = refl } in
+    record { call = answered-so (u .card) (finishNumber u ws) (finished (u .card) ws) (λ e. finish-done (u .card) ws e (u .card .waiting) refl); words = refl } in
     elim (dichotomy (eqb (numberOf (d .answer)) 0)) [
       | inl n ↦ kept (by-refused words ws after a d f g (eqb-false _ _ n))
       | inr n ↦ kept (by-finish words ws after (storedFrom u after) a b d f g (eqb-true _ _ n) (record { number = store; lent = refl }))
     ]
 
 pub step-promised : (u : World) (c : Call) → Promised u c (step u c)
-step-promised u (begin {w} asked lent) =
+step-promised u (begin {r = w} asked lent) =
     kept (by-begin asked lent _ _ (record { call = answered-so (u .card) _ (begun (u .card) w) (λ e. refl); places = refl }))
 step-promised u (finish words) = finish-promised u words
 step-promised u withdraw = kept (by-withdraw _ (answered-so (u .card) _ (withdrawn (u .card)) (λ e. refl)))

@@ -7,7 +7,7 @@ use mathlib.Core.Path.{_≡_, refl}
 use native.Mathlib.Omega.{arith}
 use lib.ListN.{replicate}
 use Rattle.record.specs.Standing.{dummyKey, same, isDummy, known, isProper, mayStand}
-use Rattle.request.specs.declared.Waiting.{Waiting}
+use Rattle.request.specs.declared.Request.{Request}
 use Rattle.demands.specs.World.{Asked, freshWorld, insert, extract, delete, Call, begin, finish, withdraw, findMin, Outcome, step, outcomes}
 use Rattle.record.specs.Many.{every, reals, bears, stampTwice}
 use Rattle.record.specs.Order.{noLater, smallerBy, smallestBy}
@@ -31,10 +31,11 @@ use Rattle.damage.specs.Damaged.{pathDamaged, pairDamaged}
 use Rattle.settle.specs.Left.{removal, insertion, removalDamaged, insertionDamaged}
 use Rattle.rack.specs.Answers.{anyOutside}
 use Rattle.copies.specs.Copy.{stored}
+use Rattle.checks.specs.Checks.{callRows}
 use Rattle.card.specs.Answers.{orRefused}
 use Rattle.card.specs.BadCard.{badCard}
-use Rattle.card.specs.Calls.{listOf, beginTable, minTable, withdrawTable}
-use Rattle.card.specs.Finish.{leftBy, damagedBy, entryTable, finishedBy}
+use Rattle.card.specs.Calls.{callTable, listOf}
+use Rattle.card.specs.Finish.{leftBy, damagedBy, finishedBy}
 use Rattle.request.specs.Tables.{insertRows, extractRows, deleteRows, requestRows, waits}
 use Rattle.record.specs.declared.Leaf.{Leaf}
 use Rattle.answers.specs.Answers.{numberOf, valuesOf}
@@ -43,7 +44,7 @@ use Rattle.answers.specs.Answers.{numberOf, valuesOf}
 abbrev leaf : ℕ → Leaf
 leaf n = record { 0 = n }
 
-abbrev asks : {w : Waiting} → Asked w → Call
+abbrev asks : {r : Request} → Asked r → Call
 asks a = begin a (replicate 6 0)
 
 abbrev ends : Call
@@ -102,6 +103,6 @@ unfolding every reals bears stampTwice noLater smallerBy smallestBy same isDummy
     pulls evictUp evict slotsAt inOrder kids named found removed wholeAt siblingAt siblingsShown slotsShown wayShown
     pathWords pathBuckets leastAfter seated sound pathSound siblingsSound kidsShown leastsTrue pathDamaged
     pairDamaged removal insertion removalDamaged insertionDamaged anyOutside stored orRefused badCard listOf
-    beginTable minTable withdrawTable leftBy damagedBy entryTable finishedBy insertRows extractRows deleteRows
+    callTable callRows leftBy damagedBy finishedBy insertRows extractRows deleteRows
     requestRows waits step outcomes flatMap
 sample = (refl, refl)

@@ -11,18 +11,21 @@ use lib.ListN.{length}
 use borrow.Author.Tests.{eqb-true, eqb-false}
 use Rattle.record.specs.declared.Record.{Record}
 use Rattle.path.specs.declared.sizes.Sizes.{Sizes}
-use Rattle.lists.specs.BucketList.{BucketList, laid}
+use Rattle.lists.specs.BucketList.{BucketList, noBuckets, laid}
 use Rattle.refusal.specs.Refusal.{firstGiven}
 use Rattle.refusal.proofs.RefusalLaws.{none-given}
 use Rattle.card.specs.declared.Card.{Card}
 use Rattle.request.specs.declared.Waiting.{Waiting}
+use Rattle.request.specs.declared.Waiting.the-variants.{Nothing, For}
+use Rattle.request.specs.declared.Request.{Request}
 use Rattle.answers.specs.declared.Answer.{Answer}
 use Rattle.answers.specs.declared.Answer.the-variants.{Refused}
 use Rattle.card.specs.declared.Done.{Done}
 use Rattle.card.specs.Answers.{orRefused}
 use Rattle.request.specs.Tables.{waits}
 use Rattle.card.specs.BadCard.{badCard}
-use Rattle.card.specs.Calls.{listOf, beginTable, begun, minTable, foundMin, withdrawTable, withdrawn, withWaiting}
+use Rattle.checks.specs.Checks.{callRows}
+use Rattle.card.specs.Calls.{callTable, listOf, beginTable, begun, minTable, foundMin, withdrawTable, withdrawn, withWaiting}
 use Rattle.card.proofs.BeginLaws.{accepted}
 use Rattle.card.proofs.CallLaws.{same-list}
 use Rattle.served.specs.Ready.{Ready}
@@ -34,17 +37,25 @@ use Rattle.demands.specs.Says.{pendingAfter, requestOf}
 use Rattle.demands.specs.Refusals.{refusalOf}
 use Rattle.demands.specs.Demand2.{Stands, Refuses, Answers, RackPasses}
 use Rattle.demands.proofs.AnswerLaws.{queueOf, least-told}
-use Rattle.demands.proofs.RefusalsLaws.{refusal-most, begin-number, withdraw-number, min-number}
+use Rattle.demands.proofs.RefusalsLaws.{refusal-most, call-number}
 
 -- ---- what holds between two calls, and what one call keeps
 -- a world that stands, and the list that is held is the one of the request that waits
+abbrev pub heldFor : Card → Waiting → BucketList
+heldFor k Nothing = noBuckets
+heldFor k (For r) = listOf k r
+
+abbrev pub Worded : Waiting → Type 0
+Worded Nothing = Unit {0}
+Worded (For r) = WordKey r
+
 pub record Holds (s : Sizes) (u : World) (p : Waiting) (q : Queue) : Type 0 where
   pub stands : Stands s u p q
-  pub word : WordKey (u .card .waiting)
+  pub word : Worded (u .card .waiting)
   pub places : List ℕ
-  pub list : u .list ≡ laid (listOf (u .card) (u .card .waiting)) places
-  pub whole : u .whole ≡ length (listOf (u .card) (u .card .waiting) .whole)
-  pub least : u .least ≡ length (listOf (u .card) (u .card .waiting) .least)
+  pub list : u .list ≡ laid (heldFor (u .card) (u .card .waiting)) places
+  pub whole : u .whole ≡ length (heldFor (u .card) (u .card .waiting) .whole)
+  pub least : u .least ≡ length (heldFor (u .card) (u .card .waiting) .least)
 
 module _ (s : Sizes) (u : World) (p : Waiting) (q : Queue) (c : Call) (o : Outcome) where
   -- answered, and the world holds again
@@ -53,7 +64,7 @@ module _ (s : Sizes) (u : World) (p : Waiting) (q : Queue) (c : Call) (o : Outco
     pub holds : Holds s (o .world) (pendingAfter p c) (next q (requestOf p c))
 
   pub record Plays : Type 0 where
-    pub rack : RackPasses s p c o
+    pub rack : RackPasses s p q c o
     pub card : Refuses s u p q c o ⊎ Goes
 
 -- ---- a call of the card alone
@@ -72,8 +83,8 @@ alone-done : (u : World) (n : ℕ) (done : Done) (list : List ℕ) (whole least 
 unfolding orRefused
 alone-done u n done list whole least h = rw h
 
-quiet-rack : (s : Sizes) (p : Waiting) (v : World) (c : Call) (a : Answer) → RackPasses s p c (quiet v a)
-quiet-rack s p v c a = record { fetch = inl refl; store = refl }
+quiet-rack : (s : Sizes) (p : Waiting) (q : Queue) (v : World) (c : Call) (a : Answer) → RackPasses s p q c (quiet v a)
+quiet-rack s p q v c a = record { fetch = inl refl; store = refl }
 
 -- refused for what queue and pending request tell
 pub refused-as : (s : Sizes) (u : World) (p : Waiting) (q : Queue) (c : Call) (o : Outcome) (n : ℕ) → o .answer ≡ Refused n → o .world ≡ u
@@ -93,17 +104,17 @@ refused-as s u p q c o n given unchanged h why =
 plays-refused : (s : Sizes) (u : World) (p : Waiting) (q : Queue) (c : Call) (n : ℕ) → (n ≡ 0 → ⊥) → n ≡ refusalOf s (u .card .root) p q c
     → Plays s u p q c (quiet u (Refused n))
 plays-refused s u p q c n h why =
-    record { rack = quiet-rack s p u c (Refused n); card = inl (refused-as s u p q c (quiet u (Refused n)) n refl refl h why) }
+    record { rack = quiet-rack s p q u c (Refused n); card = inl (refused-as s u p q c (quiet u (Refused n)) n refl refl h why) }
 
 -- ---- a world whose list is the one of the request that waits
-asked-word : {w : Waiting} → Asked w → WordKey w
+asked-word : {r : Request} → Asked r → WordKey r
 asked-word (insert key) = key
 asked-word extract = tt
 asked-word delete = tt
 
-module _ (k : Card) (tree places : List ℕ) (live : List Record) (r : Ready k tree live) (word : WordKey (k .waiting)) where
+module _ (k : Card) (tree places : List ℕ) (live : List Record) (r : Ready k tree live) (word : Worded (k .waiting)) where
   abbrev l : BucketList
-  l = listOf k (k .waiting)
+  l = heldFor k (k .waiting)
 
   abbrev u : World
   u = record { card = k; tree = tree; list = laid l places; whole = length (l .whole); least = length (l .least) }
@@ -130,7 +141,7 @@ module _ (k : Card) (tree places : List ℕ) (live : List Record) (r : Ready k t
       }
 
   -- ---- begin
-  pub plays-begin : {w : Waiting} (asked : Asked w) (lent : List ℕ) → Played (begin asked lent) (step u (begin asked lent))
+  pub plays-begin : {w : Request} (asked : Asked w) (lent : List ℕ) → Played (begin asked lent) (step u (begin asked lent))
   unfolding step
   plays-begin {w} asked lent =
       let n = firstGiven (beginTable k w (length lent)) in
@@ -140,16 +151,16 @@ module _ (k : Card) (tree places : List ℕ) (live : List Record) (r : Ready k t
         | inl f ↦
             subst (Played (begin asked lent))
             (alone-refused u n (begun k w) (laid (listOf k w) lent) whole least (eqb-false n 0 f))
-            (refusedWith (begin asked lent) n (eqb-false n 0 f) (begin-number k tree live r asked lent))
+            (refusedWith (begin asked lent) n (eqb-false n 0 f) (call-number k tree live r (begin asked lent)))
         | inr t ↦
             let a = accepted k w (length lent) (eqb-true n 0 t) in
-            let same = sym (same-list (withWaiting k w) k w refl refl) in
+            let same = sym (same-list (withWaiting k (For w)) k w refl refl) in
             subst (Played (begin asked lent))
             (alone-done u n (begun k w) (laid (listOf k w) lent) whole least (eqb-true n 0 t))
             (record {
-              rack = quiet-rack (k .sizes) (k .waiting) _ (begin asked lent) _;
+              rack = quiet-rack (k .sizes) (k .waiting) q _ (begin asked lent) _;
               card = inr (record {
-                answers = record { passes = refl; why = sym (begin-number k tree live r asked lent) ∙ eqb-true n 0 t; same = refl };
+                answers = record { passes = refl; why = sym (call-number k tree live r (begin asked lent)) ∙ eqb-true n 0 t; same = refl };
                 holds = record {
                   stands = record { sizes = refl; waiting = refl; live = live; ready = begin-ready k tree live w r (a .request); events = refl; taken = refl };
                   word = asked-word asked;
@@ -164,19 +175,19 @@ module _ (k : Card) (tree places : List ℕ) (live : List Record) (r : Ready k t
 
   -- ---- withdraw and FindMin
   pub plays-withdraw : Played withdraw (step u withdraw)
-  unfolding step listOf
+  unfolding step
   plays-withdraw =
       let n = firstGiven (withdrawTable k) in
       elim (dichotomy (eqb n 0)) [
         | inl f ↦
             subst (Played withdraw) (alone-refused u n (withdrawn k) [] 0 0 (eqb-false n 0 f))
-            (refusedWith withdraw n (eqb-false n 0 f) (withdraw-number k tree live r))
+            (refusedWith withdraw n (eqb-false n 0 f) (call-number k tree live r withdraw))
         | inr t ↦
             subst (Played withdraw) (alone-done u n (withdrawn k) [] 0 0 (eqb-true n 0 t))
             (record {
-              rack = quiet-rack (k .sizes) (k .waiting) _ withdraw _;
+              rack = quiet-rack (k .sizes) (k .waiting) q _ withdraw _;
               card = inr (record {
-                answers = record { passes = refl; why = sym (withdraw-number k tree live r) ∙ eqb-true n 0 t; same = refl };
+                answers = record { passes = refl; why = sym (call-number k tree live r withdraw) ∙ eqb-true n 0 t; same = refl };
                 holds = record {
                   stands = record { sizes = refl; waiting = refl; live = live; ready = withdraw-ready k tree live r; events = refl; taken = refl };
                   word = tt;
@@ -191,7 +202,7 @@ module _ (k : Card) (tree places : List ℕ) (live : List Record) (r : Ready k t
 
   -- events are live where FindMin is not refused
   min-live : firstGiven (minTable k) ≡ 0 → 1 ≤ k .c
-  unfolding minTable
+  unfolding callTable callRows
   min-live e =
       let a = none-given 13 (badCard k) _ (omega arith) e in
       let b = none-given 2 (waits (k .waiting)) _ (omega arith) (a .1) in
@@ -205,15 +216,15 @@ module _ (k : Card) (tree places : List ℕ) (live : List Record) (r : Ready k t
       elim (dichotomy (eqb n 0)) [
         | inl f ↦
             subst (Played findMin) (alone-refused u n (foundMin k) (u .list) (u .whole) (u .least) (eqb-false n 0 f))
-            (refusedWith findMin n (eqb-false n 0 f) (min-number k tree live r))
+            (refusedWith findMin n (eqb-false n 0 f) (call-number k tree live r findMin))
         | inr t ↦
             subst (Played findMin) (alone-done u n (foundMin k) (u .list) (u .whole) (u .least) (eqb-true n 0 t))
             (record {
-              rack = quiet-rack (k .sizes) (k .waiting) _ findMin _;
+              rack = quiet-rack (k .sizes) (k .waiting) q _ findMin _;
               card = inr (record {
                 answers = record {
                   passes = refl;
-                  why = sym (min-number k tree live r) ∙ eqb-true n 0 t;
+                  why = sym (call-number k tree live r findMin) ∙ eqb-true n 0 t;
                   same = ap told (sym (least-told k tree live r (min-live (eqb-true n 0 t))));
                 };
                 holds = holds-again;

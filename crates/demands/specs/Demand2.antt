@@ -12,14 +12,16 @@ use Rattle.record.specs.declared.Record.{Record}
 use Rattle.path.specs.declared.sizes.Sizes.{Sizes}
 use Rattle.path.specs.Sizes.{inRange}
 use Rattle.request.specs.declared.Waiting.{Waiting}
-use Rattle.request.specs.declared.Waiting.the-variants.{Nothing}
+use Rattle.request.specs.declared.Waiting.the-variants.{Nothing, For}
+use Rattle.request.specs.Job.{jobOf}
+use Rattle.listing.specs.Listing.{wordsAsked}
 use Rattle.answers.specs.declared.Answer.the-variants.{Refused}
 use Rattle.answers.specs.Answers.{numberOf}
 use Rattle.served.specs.Ready.{Ready}
 use Rattle.demands.specs.Queue.{Queue, emptyQueue, reply, next}
 use Rattle.demands.specs.World.{World, freshWorld, Call, begin, finish, withdraw, findMin, Outcome}
 use Rattle.demands.specs.Says.{eventOf, pendingAfter, requestOf, says}
-use Rattle.demands.specs.Refusals.{wordsToFetch, refusalOf}
+use Rattle.demands.specs.Refusals.{partsTold, refusalOf}
 use Rattle.demands.specs.Promised.{Carried}
 
 -- ---- before and after every call
@@ -53,24 +55,28 @@ module _ (s : Sizes) (u : World) (p : Waiting) (q : Queue) (c : Call) (o : Outco
     pub same : says (o .answer) ≡ reply q (requestOf p c)
 
 -- the words lent to a finish are fewer than the pending request needs
-abbrev pub TooFew : Sizes → Waiting → Call → Type 0
-TooFew s p (begin asked places) = ⊥
-TooFew s p (finish words) = length words < wordsToFetch s p
-TooFew s p withdraw = ⊥
-TooFew s p findMin = ⊥
+abbrev pub fewFor : Sizes → Queue → Waiting → ℕ → Type 0
+fewFor s q Nothing room = ⊥
+fewFor s q (For r) room = room < wordsAsked s (jobOf (partsTold s q) r)
+
+abbrev pub TooFew : Sizes → Waiting → Queue → Call → Type 0
+TooFew s p q (begin asked places) = ⊥
+TooFew s p q (finish words) = fewFor s q p (length words)
+TooFew s p q withdraw = ⊥
+TooFew s p q findMin = ⊥
 
 -- the rack refuses neither with 1 nor with 14, and with 11 for too few words alone
-pub record RackPasses (s : Sizes) (p : Waiting) (c : Call) (o : Outcome) : Type 0 where
-  pub fetch : (o .fetch ≡ 0) ⊎ ((o .fetch ≡ 11) × TooFew s p c)
+pub record RackPasses (s : Sizes) (p : Waiting) (q : Queue) (c : Call) (o : Outcome) : Type 0 where
+  pub fetch : (o .fetch ≡ 0) ⊎ ((o .fetch ≡ 11) × TooFew s p q c)
   pub store : o .store ≡ 0
 
 -- ---- every list of calls, one after the other, with what comes of each
 pub data Run (s : Sizes) : World → Waiting → Queue → List Call → List Outcome → Type 0 where
   ended : {u : World} {p : Waiting} {q : Queue} → Stands s u p q → Run s u p q [] []
   refused : {u : World} {p : Waiting} {q : Queue} {c : Call} {o : Outcome} {cs : List Call} {os : List Outcome} → Stands s u p q
-      → RackPasses s p c o → Refuses s u p q c o → Run s (o .world) p q cs os → Run s u p q (c ∷ cs) (o ∷ os)
+      → RackPasses s p q c o → Refuses s u p q c o → Run s (o .world) p q cs os → Run s u p q (c ∷ cs) (o ∷ os)
   answered : {u : World} {p : Waiting} {q : Queue} {c : Call} {o : Outcome} {cs : List Call} {os : List Outcome} → Stands s u p q
-      → RackPasses s p c o → Answers s u p q c o → Run s (o .world) (pendingAfter p c) (next q (requestOf p c)) cs os
+      → RackPasses s p q c o → Answers s u p q c o → Run s (o .world) (pendingAfter p c) (next q (requestOf p c)) cs os
       → Run s u p q (c ∷ cs) (o ∷ os)
 
 -- The premise that the rack is honest, for "An older true copy of the tree can't be told apart": what comes of each call is what the

@@ -4,7 +4,7 @@ pub mod World
 pub mod Says
 pub mod Refusals
 pub mod Sorted
-pub mod Jobs
+pub mod Rounds
 pub mod Promised
 pub mod Demand2
 pub mod Plainly

@@ -8,7 +8,7 @@ use Rattle.refusal.specs.Refusal.{firstGiven, afterwards}
 use Rattle.rack.specs.declared.Answer.{Answer as RackAnswer}
 use Rattle.rack.specs.Answers.{answerNumber}
 use Rattle.rack.specs.Promises.{Fetches, Stores}
-use Rattle.request.specs.declared.Waiting.{Waiting}
+use Rattle.request.specs.declared.Request.{Request}
 use Rattle.card.specs.declared.Done.{Done}
 use Rattle.answers.specs.Answers.{numberOf, valuesOf}
 use Rattle.card.specs.Answers.{Answered}
@@ -49,7 +49,7 @@ module _ (u : World) where
       Stores (u .card .sizes .h) (u .card .sizes .z) (u .tree) (u .list) (u .whole) (u .least) words answer after
 
   pub data Promised : Call → Outcome → Type 0 where
-    by-begin : {w : Waiting} (asked : Asked w) (lent after : List ℕ) (d : Done) → Begins (u .card) w lent after d
+    by-begin : {r : Request} (asked : Asked r) (lent after : List ℕ) (d : Done) → Begins (u .card) r lent after d
         → Promised (begin asked lent) (told d after (wholeCount d) (leastCount d))
     by-withdraw : (d : Done) → Answered (u .card) (firstGiven (withdrawTable (u .card))) (withdrawn (u .card)) d
         → Promised withdraw (told d [] 0 0)

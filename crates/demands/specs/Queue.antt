@@ -49,12 +49,12 @@ abbrev pub emptyQueue : Queue
 emptyQueue = record { events = []; taken = 0 }
 
 -- what is asked of it; an Insert's caller supplies the label, the queue the stamp
-pub data Request : Type 0 where
-  insert : (key value label : ℕ) → Request
-  findMin : Request
-  extractMin : Request
-  delete : Reference → Request
-  nothing : Request
+pub data Operation : Type 0 where
+  insert : (key value label : ℕ) → Operation
+  findMin : Operation
+  extractMin : Operation
+  delete : Reference → Operation
+  nothing : Operation
 
 -- what it answers
 pub data Reply : Type 0 where
@@ -67,7 +67,7 @@ module _ (q : Queue) where
   abbrev pub newEvent : ℕ → ℕ → ℕ → Event
   newEvent key value label = record { key = key; value = value; ref = record { label = label; stamp = q .taken } }
 
-  abbrev pub reply : Request → Reply
+  abbrev pub reply : Operation → Reply
   reply (insert key value label) = referred (newEvent key value label .ref)
   reply findMin = told (leastEvent (q .events))
   reply extractMin = told (leastEvent (q .events))
@@ -82,7 +82,7 @@ module _ (q : Queue) where
   abbrev pub turned : List Event → Queue
   turned es = record { events = es; taken = suc (q .taken) }
 
-  abbrev pub next : Request → Queue
+  abbrev pub next : Operation → Queue
   next (insert key value label) = turned (q .events ++ (newEvent key value label ∷ []))
   next findMin = q
   next extractMin = turned (withoutThis (leastEvent (q .events)))

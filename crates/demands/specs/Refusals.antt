@@ -1,34 +1,43 @@
 -- When a call is refused, told by the sizes, the pending request and the plain queue: document 01, "Refusal numbers", without 12
--- and 13. A request's own rows are those of request/specs/Tables.antt, with the queue's counts for t and c. Assumes nothing.
+-- and 13. The rows are those of checks/specs/Checks.antt, on the parts that the queue tells of a card. Assumes nothing.
 use Prim.Native.Nat.{ℕ}
-use mathlib.Core.Bool.{not}
-use mathlib.Core.List.{List, [], _∷_, _++_}
-use lib.Dec.{ltb, eqb}
+use mathlib.Core.Bool.{false}
+use mathlib.Core.List.{List}
+use mathlib.Core.Option.{Option, none, some}
 use lib.ListN.{length}
 use Rattle.record.specs.declared.Record.{Record}
+use Rattle.record.specs.Standing.{dummy}
+use Rattle.record.specs.Words.{record4}
 use Rattle.path.specs.declared.sizes.Sizes.{Sizes}
-use Rattle.lists.specs.BucketList.{fetchedFor}
-use Rattle.refusal.specs.Refusal.{Refusal, row, firstGiven}
+use Rattle.refusal.specs.Refusal.{Refusal, firstGiven}
+use Rattle.parts.specs.declared.Parts.{Parts}
 use Rattle.request.specs.declared.Waiting.{Waiting}
-use Rattle.request.specs.Tables.{requestRows, waits}
-use Rattle.listing.specs.Listing.{countsFor, placesFor}
-use Rattle.demands.specs.Queue.{Queue}
+use Rattle.checks.specs.declared.Call.{Call as CardCall}
+use Rattle.checks.specs.declared.Call.the-variants.{Min, Withdraw, Begin, Finish}
+use Rattle.checks.specs.Checks.{callRows}
+use Rattle.demands.specs.Queue.{Event, Queue, leastEvent}
 use Rattle.demands.specs.World.{Call, begin, finish, withdraw, findMin}
 
--- the words that a finish of this request needs
-abbrev pub wordsToFetch : Sizes → Waiting → ℕ
-wordsToFetch s p = fetchedFor (s .z) (countsFor (s .h) p)
+-- the record of an event; the dummy for none
+abbrev pub recordTold : Option Event → Record
+recordTold none = dummy
+recordTold (some e) = record4 (e .key) (e .value) (e .ref .label) (e .ref .stamp)
 
--- Begin: "2 .., 4, 5, 6, 7, 8, 9, 10, 11"; "finish checks 13, 3, 11, 12 only, withdraw 13, 3"; FindMin "checks 13, 2 and 8 only". Of the
--- card only the root's slots count, for "Insert, every root slot real".
+-- a card's parts: "the count t of finished requests, the count c of live events", and the least of these
+abbrev pub partsTold : Sizes → Queue → Parts
+partsTold s q = record { sizes = s; t = q .taken; c = length (q .events); least = recordTold (leastEvent (q .events)) }
+
+-- the call on the card
+abbrev pub callOf : Call → CardCall
+callOf (begin {r} asked places) = Begin r (length places)
+callOf (finish words) = Finish (length words)
+callOf withdraw = Withdraw
+callOf findMin = Min
+
+-- Of the card only the root's slots count, for "Insert, every root slot real".
 module _ (s : Sizes) (root : List Record) (p : Waiting) (q : Queue) where
   abbrev pub refusals : Call → List Refusal
-  refusals (begin {w} asked places) =
-      row 2 (waits p)
-      ∷ (requestRows s (q .taken) (length (q .events)) root w ++ (row 11 (ltb (length places) (placesFor (s .h) w)) ∷ []))
-  refusals (finish words) = row 3 (not (waits p)) ∷ row 11 (ltb (length words) (wordsToFetch s p)) ∷ []
-  refusals withdraw = row 3 (not (waits p)) ∷ []
-  refusals findMin = row 2 (waits p) ∷ row 8 (eqb (length (q .events)) 0) ∷ []
+  refusals c = callRows false (partsTold s q) root p (callOf c)
 
   -- the number that is given, 0 for none
   abbrev pub refusalOf : Call → ℕ

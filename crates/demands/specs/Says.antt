@@ -4,10 +4,12 @@ use Rattle.record.specs.declared.Leaf.{Leaf}
 use Rattle.record.specs.declared.Stamp.{Stamp}
 use Rattle.record.specs.declared.Record.{Record}
 use Rattle.request.specs.declared.Waiting.{Waiting}
-use Rattle.request.specs.declared.Waiting.the-variants.{Nothing, Insert, Extract, Delete}
+use Rattle.request.specs.declared.Waiting.the-variants.{Nothing, For}
+use Rattle.request.specs.declared.Request.{Request}
+use Rattle.request.specs.declared.Request.the-variants.{Insert, Extract, Delete}
 use Rattle.answers.specs.declared.Answer.{Answer}
 use Rattle.answers.specs.declared.Answer.the-variants.{Started, Listed, Least, Withdrawn, Inserted, Extracted, Deleted, Refused}
-use Rattle.demands.specs.Queue.{Reference, Event, Request, insert, extractMin, delete, nothing, findMin as findLeast, Reply, referred, told, wasFound, silent}
+use Rattle.demands.specs.Queue.{Reference, Event, Operation, insert, extractMin, delete, nothing, findMin as findLeast, Reply, referred, told, wasFound, silent}
 use Rattle.demands.specs.World.{Call, begin, finish, withdraw, findMin}
 
 abbrev pub refOf : Leaf → Stamp → Reference
@@ -16,25 +18,28 @@ refOf label stamp = record { label = label .0; stamp = stamp .0 }
 abbrev pub eventOf : Record → Event
 eventOf r = record { key = r .key; value = r .value; ref = refOf (r .label) (r .stamp) }
 
--- what a waiting request asks of the queue; its eviction leaves are nothing to the queue
-abbrev pub asks : Waiting → Request
-asks Nothing = nothing
+-- what a request asks of the queue; its eviction leaves are nothing to the queue
+abbrev pub asks : Request → Operation
 asks (Insert key value label first second) = insert key value (label .0)
 asks Extract = extractMin
 asks (Delete label stamp) = delete (refOf label stamp)
 
+abbrev pub waitingAsks : Waiting → Operation
+waitingAsks Nothing = nothing
+waitingAsks (For r) = asks r
+
 -- The pending request, told by the calls alone: the one that was begun and is neither finished nor withdrawn. What a call that is
 -- answered makes of it.
 abbrev pub pendingAfter : Waiting → Call → Waiting
-pendingAfter p (begin {w} asked places) = w
+pendingAfter p (begin {r} asked places) = For r
 pendingAfter p (finish words) = Nothing
 pendingAfter p withdraw = Nothing
 pendingAfter p findMin = p
 
 -- what a call asks of the queue: a finish the pending request; a begin and a withdraw nothing
-abbrev pub requestOf : Waiting → Call → Request
+abbrev pub requestOf : Waiting → Call → Operation
 requestOf p (begin asked places) = nothing
-requestOf p (finish words) = asks p
+requestOf p (finish words) = waitingAsks p
 requestOf p withdraw = nothing
 requestOf p findMin = findLeast
 

@@ -10,17 +10,16 @@ use Rattle.path.specs.declared.sizes.Sizes.{Sizes}
 use Rattle.path.specs.Layout.{freshTree}
 use Rattle.lists.specs.BucketList.{BucketList, laid}
 use Rattle.refusal.specs.Refusal.{firstGiven, afterwards}
-use Rattle.settle.specs.Left.{wordsLeft}
 use Rattle.rack.specs.Answers.{copyRefusal}
 use Rattle.copies.specs.Copy.{listed, fetched, stored}
 use Rattle.card.specs.declared.Card.{Card}
-use Rattle.request.specs.declared.Waiting.{Waiting}
-use Rattle.request.specs.declared.Waiting.the-variants.{Insert, Extract, Delete}
+use Rattle.request.specs.declared.Request.{Request}
+use Rattle.request.specs.declared.Request.the-variants.{Insert, Extract, Delete}
 use Rattle.answers.specs.declared.Answer.{Answer}
 use Rattle.card.specs.declared.Done.{Done}
 use Rattle.card.specs.Answers.{orRefused}
 use Rattle.card.specs.Calls.{freshCard, listOf, beginTable, begun, minTable, foundMin, withdrawTable, withdrawn}
-use Rattle.card.specs.Finish.{leftBy, finishTable, finished}
+use Rattle.card.specs.Finish.{wordsFor, finishTable, finished}
 
 -- The card, the rack's tree, and the list that the last begin laid in its lent slice, with its counts.
 pub record World : Type 0 where
@@ -35,14 +34,14 @@ abbrev pub freshWorld : Sizes → World
 freshWorld s = record { card = freshCard s; tree = freshTree (s .h) (s .z); list = []; whole = 0; least = 0 }
 
 -- What may be begun. A key is a 64-bit number; any other field may be any number at all.
-pub data Asked : Waiting → Type 0 where
+pub data Asked : Request → Type 0 where
   insert : {key value : ℕ} {label first second : Leaf} → key ≤ dummyKey → Asked (Insert key value label first second)
   extract : Asked Extract
   delete : {label : Leaf} {stamp : Stamp} → Asked (Delete label stamp)
 
 -- A begin lends any list; a finish any words, into which the rack fetches before it and from which it stores after it.
 pub data Call : Type 0 where
-  begin : {w : Waiting} → Asked w → List ℕ → Call
+  begin : {r : Request} → Asked r → List ℕ → Call
   finish : List ℕ → Call
   withdraw : Call
   findMin : Call
@@ -87,7 +86,7 @@ module _ (u : World) where
   finishNumber ws = firstGiven (finishTable (u .card) ws)
 
   abbrev pub wordsAfter : List ℕ → List ℕ
-  wordsAfter ws = afterwards (finishNumber ws) (wordsLeft (leftBy (u .card) (u .card .waiting) ws) ws) ws
+  wordsAfter ws = afterwards (finishNumber ws) (wordsFor (u .card) (u .card .waiting) ws) ws
 
   abbrev pub storedFrom : List ℕ → List ℕ
   storedFrom ws = afterwards (rackNumber ws) (stored (u .card .sizes .z) (held .whole) ws (u .tree)) (u .tree)
@@ -108,9 +107,9 @@ module _ (u : World) where
       }
 
   unfoldable pub step : Call → Outcome
-  step (begin {w} asked places) =
-      alone (firstGiven (beginTable (u .card) w (length places))) (begun (u .card) w)
-      (laid (listOf (u .card) w) places) (length (listOf (u .card) w .whole)) (length (listOf (u .card) w .least))
+  step (begin {r} asked places) =
+      alone (firstGiven (beginTable (u .card) r (length places))) (begun (u .card) r)
+      (laid (listOf (u .card) r) places) (length (listOf (u .card) r .whole)) (length (listOf (u .card) r .least))
   step (finish words) = finishing (rackNumber words) (shown words)
   step withdraw = alone (firstGiven (withdrawTable (u .card))) (withdrawn (u .card)) [] 0 0
   step findMin = alone (firstGiven (minTable (u .card))) (foundMin (u .card)) (u .list) (u .whole) (u .least)

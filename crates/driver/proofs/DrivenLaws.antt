@@ -9,22 +9,23 @@ use Rattle.refusal.specs.Refusal.{Refusal, firstGiven, afterwards}
 use Rattle.refusal.proofs.RefusalLaws.{left-done}
 use Rattle.card.specs.declared.Card.{Card}
 use Rattle.card.specs.declared.Done.{Done}
-use Rattle.request.specs.declared.Waiting.{Waiting}
+use Rattle.request.specs.declared.Request.{Request}
+use Rattle.checks.specs.declared.Call.the-variants.{Begin}
 use Rattle.answers.specs.Answers.{numberOf, valuesOf, noValues}
 use Rattle.card.specs.Answers.{orRefused, Answered}
 use Rattle.card.specs.Calls.{listOf, beginTable, begun, Begins, minTable, foundMin}
-use Rattle.card.specs.Finish.{finishTable, finished, Finishes}
+use Rattle.card.specs.Finish.{finishTable, finished, wordsFor, Finishes}
 use Rattle.image.specs.Image.{imageOf}
 use Rattle.image.specs.Reading.{cardIn, oddKind}
 use Rattle.image.proofs.ImageLaws.{card-image, image-even}
 use Rattle.held.specs.Held.{noCard, heldIn}
-use Rattle.held.proofs.HeldLaws.{none-begins, none-finishes, held-odd, held-even}
+use Rattle.held.proofs.HeldLaws.{none-called, none-finishes, held-odd, held-even}
 use Rattle.rack.specs.declared.Answer.{Answer}
 use Rattle.rack.specs.Answers.{answerNumber}
 use Rattle.rack.specs.Promises.{Answers}
 use Rattle.told.specs.Told.{Said, Answering, Called, Settled, Zeroed}
 use Rattle.told.proofs.ToldLaws.{answering, answered, called, card-left}
-use Rattle.driver.specs.Driven.{onCard, BeginsAt, FindsMin, leftOn, FinishesAt, Racked, EqualsFirst}
+use Rattle.driver.specs.Driven.{onCard, BeginsAt, FindsMin, FinishesAt, Racked, EqualsFirst}
 
 -- ---- the kind comes first
 module _ (ws : List ℕ) (table : Card → List Refusal) where
@@ -84,13 +85,13 @@ module _ (ws : List ℕ) (table : Card → List Refusal) (none : firstGiven (tab
 
 -- ---- a begin
 pub held-begin :
-    (w : Waiting) (ws list : List ℕ) (k : Card) (d : Done) (n : ℕ) (ws′ told′ list′ : List ℕ) → k ≡ heldIn ws
-    → Begins k w list list′ d → Settled d ws n ws′ told′ → BeginsAt w ws list n ws′ told′ list′
-held-begin w ws list k d n ws′ told′ list′ e b s =
-    let table : Card → List Refusal = λ x. beginTable x w (length list) in
+    (r : Request) (ws list : List ℕ) (k : Card) (d : Done) (n : ℕ) (ws′ told′ list′ : List ℕ) → k ≡ heldIn ws
+    → Begins k r list list′ d → Settled d ws n ws′ told′ → BeginsAt r ws list n ws′ told′ list′
+held-begin r ws list k d n ws′ told′ list′ e b s =
+    let table : Card → List Refusal = λ x. beginTable x r (length list) in
     record {
-      call = held-called ws table (none-begins w (length list)) (λ x. begun x w) d n told′ k e (b .call) ws′ s;
-      places = held-lent ws table (none-begins w (length list)) (λ x. laid (listOf x w) list) list list′ k e (b .places);
+      call = held-called ws table (none-called (Begin r (length list))) (λ x. begun x r) d n told′ k e (b .call) ws′ s;
+      places = held-lent ws table (none-called (Begin r (length list))) (λ x. laid (listOf x r) list) list list′ k e (b .places);
     }
 
 -- ---- a finish
@@ -101,7 +102,7 @@ held-finish ws fetched k d n ws′ told′ after e f s =
     let table : Card → List Refusal = λ x. finishTable x fetched in
     record {
       call = held-called ws table (none-finishes fetched) (λ x. finished x fetched) d n told′ k e (f .call) ws′ s;
-      words = held-lent ws table (none-finishes fetched) (λ x. leftOn x fetched) fetched after k e (f .words);
+      words = held-lent ws table (none-finishes fetched) (λ x. wordsFor x (x .waiting) fetched) fetched after k e (f .words);
     }
 
 -- ---- a rack's call
@@ -145,19 +146,19 @@ image-finds k d n told′ a s =
     }
 
 pub image-begins :
-    (k : Card) (w : Waiting) (list after : List ℕ) (d : Done) (n : ℕ) (held′ told′ list′ : List ℕ) → Begins k w list after d
-    → BeginsAt w (imageOf k) list n held′ told′ list′ → EqualsFirst d n held′ told′ × (list′ ≡ after)
-image-begins k w list after d n held′ told′ list′ b c =
-    let table : Card → List Refusal = λ x. beginTable x w (length list) in
-    let p : list′ ≡ afterwards (firstGiven (table k)) (laid (listOf k w) list) list = rw (image-number k table, card-image k) at (c .places) in
-    (image-called k table (λ x. begun x w) d n (b .call) held′ told′ (c .call), p ∙ sym (b .places))
+    (k : Card) (r : Request) (list after : List ℕ) (d : Done) (n : ℕ) (held′ told′ list′ : List ℕ) → Begins k r list after d
+    → BeginsAt r (imageOf k) list n held′ told′ list′ → EqualsFirst d n held′ told′ × (list′ ≡ after)
+image-begins k r list after d n held′ told′ list′ b c =
+    let table : Card → List Refusal = λ x. beginTable x r (length list) in
+    let p : list′ ≡ afterwards (firstGiven (table k)) (laid (listOf k r) list) list = rw (image-number k table, card-image k) at (c .places) in
+    (image-called k table (λ x. begun x r) d n (b .call) held′ told′ (c .call), p ∙ sym (b .places))
 
 pub image-finishes :
     (k : Card) (fetched after : List ℕ) (d : Done) (n : ℕ) (held′ told′ words′ : List ℕ) → Finishes k fetched after d
     → FinishesAt (imageOf k) fetched n held′ told′ words′ → EqualsFirst d n held′ told′ × (words′ ≡ after)
 image-finishes k fetched after d n held′ told′ words′ f c =
     let table : Card → List Refusal = λ x. finishTable x fetched in
-    let p : words′ ≡ afterwards (firstGiven (table k)) (leftOn k fetched) fetched = rw (image-number k table, card-image k) at (c .words) in
+    let p : words′ ≡ afterwards (firstGiven (table k)) (wordsFor k (k .waiting) fetched) fetched = rw (image-number k table, card-image k) at (c .words) in
     (image-called k table (λ x. finished x fetched) d n (f .call) held′ told′ (c .call), p ∙ sym (f .words))
 
 -- a start is given no card: where it is refused the lent words stay, and where it is not they are those of the card that the call by

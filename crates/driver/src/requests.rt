@@ -10,7 +10,7 @@ use card::Card;
 use image::CARD_WORDS;
 use record::Leaf;
 use record::Stamp;
-use request::Waiting;
+use request::Request;
 use told::ANSWER_WORDS;
 
 #[no_mangle]
@@ -28,6 +28,20 @@ pub extern "C" fn nwidarap_start(
     told::settle(done, card, answer)
 }
 
+// A begin, whatever is asked.
+fn begin(
+    card: &mut [u64; CARD_WORDS],
+    answer: &mut [u64; ANSWER_WORDS],
+    request: Request,
+    list: &mut [u64],
+) -> u64
+    ensures { λ n. ⌜ BeginsAt request (now (card .entry)) (now (list .entry)) n (now (card .exit)) (now (answer .exit)) (now (list .exit)) ⌝ }
+{
+    let taken = held::card_of(card);
+    let done = taken.begin(request, list);
+    told::settle(done, card, answer)
+}
+
 #[no_mangle]
 pub extern "C" fn nwidarap_insert(
     card: &mut [u64; CARD_WORDS],
@@ -39,11 +53,16 @@ pub extern "C" fn nwidarap_insert(
     second: u64,
     list: &mut [u64],
 ) -> u64
-    ensures { λ n. ⌜ BeginsAt (Waiting.Insert key value (record { 0 = label }) (record { 0 = first }) (record { 0 = second })) (now (card .entry)) (now (list .entry)) n (now (card .exit)) (now (answer .exit)) (now (list .exit)) ⌝ }
+    ensures { λ n. ⌜ BeginsAt (Request.Insert key value (record { 0 = label }) (record { 0 = first }) (record { 0 = second })) (now (card .entry)) (now (list .entry)) n (now (card .exit)) (now (answer .exit)) (now (list .exit)) ⌝ }
 {
-    let taken = held::card_of(card);
-    let done = taken.begin_insert(key, value, Leaf(label), Leaf(first), Leaf(second), list);
-    told::settle(done, card, answer)
+    let request = Request::Insert {
+        key: key,
+        value: value,
+        label: Leaf(label),
+        first: Leaf(first),
+        second: Leaf(second),
+    };
+    begin(card, answer, request, list)
 }
 
 #[no_mangle]
@@ -52,11 +71,10 @@ pub extern "C" fn nwidarap_extract(
     answer: &mut [u64; ANSWER_WORDS],
     list: &mut [u64],
 ) -> u64
-    ensures { λ n. ⌜ BeginsAt Waiting.Extract (now (card .entry)) (now (list .entry)) n (now (card .exit)) (now (answer .exit)) (now (list .exit)) ⌝ }
+    ensures { λ n. ⌜ BeginsAt Request.Extract (now (card .entry)) (now (list .entry)) n (now (card .exit)) (now (answer .exit)) (now (list .exit)) ⌝ }
 {
-    let taken = held::card_of(card);
-    let done = taken.begin_extract(list);
-    told::settle(done, card, answer)
+    let request = Request::Extract;
+    begin(card, answer, request, list)
 }
 
 #[no_mangle]
@@ -67,11 +85,13 @@ pub extern "C" fn nwidarap_delete(
     stamp: u64,
     list: &mut [u64],
 ) -> u64
-    ensures { λ n. ⌜ BeginsAt (Waiting.Delete (record { 0 = label }) (record { 0 = stamp })) (now (card .entry)) (now (list .entry)) n (now (card .exit)) (now (answer .exit)) (now (list .exit)) ⌝ }
+    ensures { λ n. ⌜ BeginsAt (Request.Delete (record { 0 = label }) (record { 0 = stamp })) (now (card .entry)) (now (list .entry)) n (now (card .exit)) (now (answer .exit)) (now (list .exit)) ⌝ }
 {
-    let taken = held::card_of(card);
-    let done = taken.begin_delete(Leaf(label), Stamp(stamp), list);
-    told::settle(done, card, answer)
+    let request = Request::Delete {
+        label: Leaf(label),
+        stamp: Stamp(stamp),
+    };
+    begin(card, answer, request, list)
 }
 
 // The card is lent to be read: its words stay, those of fields that its kind does not use, too.

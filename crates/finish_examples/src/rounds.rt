@@ -5,6 +5,7 @@ use card::Card;
 use card::Done;
 use record::Leaf;
 use record::Stamp;
+use request::Request;
 
 // The answer is printed, and the card goes on.
 fn told(done: Done) -> Card {
@@ -33,20 +34,32 @@ fn round(begun: Done, list: &[u64], tree: &mut [u64]) -> Card {
 
 fn insert(card: Card, tree: &mut [u64], key: u64, value: u64, label: Leaf) -> Card {
     let mut list = [0u64; 6];
-    let begun = card.begin_insert(key, value, label, Leaf(1), Leaf(2), &mut list);
+    let request = Request::Insert {
+        key: key,
+        value: value,
+        label: label,
+        first: Leaf(1),
+        second: Leaf(2),
+    };
+    let begun = card.begin(request, &mut list);
     round(begun, &list, tree)
 }
 
 fn extract(card: Card, tree: &mut [u64]) -> Card {
     let mut list = [0u64; 4];
-    let begun = card.begin_extract(&mut list);
+    let request = Request::Extract;
+    let begun = card.begin(request, &mut list);
     line::numbers(&list);
     round(begun, &list, tree)
 }
 
 fn delete(card: Card, tree: &mut [u64], label: Leaf, stamp: Stamp) -> Card {
     let mut list = [0u64; 4];
-    let begun = card.begin_delete(label, stamp, &mut list);
+    let request = Request::Delete {
+        label: label,
+        stamp: stamp,
+    };
+    let begun = card.begin(request, &mut list);
     round(begun, &list, tree)
 }
 

@@ -1,2 +1,2 @@
--- The laws of a finish on the card's parts.
-mod RequestLaws
+-- The laws of the finish of a job.
+mod JobLaws

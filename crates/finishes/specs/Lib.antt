@@ -1,2 +1,2 @@
--- What a reader must believe of a finish on the card's parts: what is left of each request, and when it is Damaged.
+-- What a reader must believe of the finish of a job: what is left, and when it is Damaged.
 pub mod Finishes

@@ -1,49 +1,36 @@
-// The finish of each request on the card's parts: document 01, "Finish takes the fetched words in list order." Whichever
-// request waits, it is worked out and written, or it is Damaged and nothing is changed.
-// Stands on `request`, `listing`, `settle`, `removal`, `insertion`.
+// The finish of a job on the card's parts: document 01, "Finish takes the fetched words in list order." Whichever job it is, it is
+// worked out and written, or it is Damaged and nothing is changed.
+// Stands on `parts`, `request`, `listing`, `settle`, `removal`, `insertion`.
 ghost use Rattle.settle.specs.Settled.{Settles};
 ghost use Rattle.lists.specs.BucketList.{wordsMoved};
 ghost use Rattle.listing.specs.Listing.{listFor};
 ghost use Rattle.finishes.specs.Finishes.{leftFor, damagedFor, Finishable};
-use path::Sizes;
+use parts::Parts;
 use record::Record;
-use record::Stamp;
-use request::Waiting;
+use request::Job;
 use settle::Settled;
-use settle::unsettled;
 
-// For crates above: the finish of the request that waits.
-pub fn settle_request(
-    words: &mut [u64],
-    root: [Record; 64],
-    sizes: Sizes,
-    t: u64,
-    c: u64,
-    least: Record,
-    waiting: Waiting,
-) -> Settled
-    requires { ⌜ Finishable sizes t c least waiting (now words) ⌝ }
-    ensures { λ out. ⌜ Settles root least c (damagedFor sizes t c root least waiting (now (words .entry))) (leftFor sizes t c root least waiting (now (words .entry))) (wordsMoved (sizes .z) (listFor (sizes .h) (least .label) waiting)) (now (words .entry)) (now (words .exit)) out ⌝ }
+// For crates above: the finish of a job.
+pub fn settle_job(words: &mut [u64], root: [Record; 64], parts: Parts, job: Job) -> Settled
+    requires { ⌜ Finishable parts job (now words) ⌝ }
+    ensures { λ out. ⌜ Settles parts root (damagedFor parts root job (now (words .entry))) (leftFor parts root job (now (words .entry))) (wordsMoved (parts .sizes .z) (listFor (parts .sizes .h) job)) (now (words .entry)) (now (words .exit)) out ⌝ }
 {
-    match waiting {
-        // no request is finished where none waits
-        Waiting::Nothing => unsettled(root, least, c),
-        Waiting::Insert {
-            key,
-            value,
+    match job {
+        Job::Path { leaf, label, stamp } => removal::settle_removal(
+            words,
+            root,
+            parts,
+            leaf,
             label,
+            stamp,
+        ),
+        Job::Pair { first, second, new } => insertion::settle_insertion(
+            words,
+            root,
+            parts,
             first,
             second,
-        } => {
-            let stamp = Stamp(t);
-            let new = Record::proper(key, value, label, stamp);
-            insertion::settle_insertion(words, root, sizes, t, c, least, new, first, second)
-        }
-        Waiting::Extract => {
-            removal::settle_removal(words, root, sizes, t, c, least, least.label, least.stamp)
-        }
-        Waiting::Delete { label, stamp } => {
-            removal::settle_removal(words, root, sizes, t, c, least, label, stamp)
-        }
+            new,
+        ),
     }
 }

@@ -22,6 +22,7 @@ use Rattle.path.specs.declared.sizes.Sizes.{Sizes}
 use Rattle.path.specs.Sizes.{leavesOf}
 use Rattle.path.specs.Path.{root as theRoot}
 use Rattle.path.specs.Layout.{Contents}
+use Rattle.parts.specs.declared.Parts.{Parts}
 use Rattle.judge.specs.BadParts.{stampOf, oddLeast, badParts}
 use Rattle.judge.proofs.FitLaws.{fit-parts}
 use Rattle.tree.specs.Tree.{Tree, InTree, treeOf}
@@ -59,7 +60,19 @@ odd-none : (leaves : ℕ) (next : Stamp) (c : ℕ) (x : Record) → isDummy x �
 unfolding oddLeast
 odd-none leaves next c x void stands e = rw (void, le-ltb 0 c (omega arith), stands)
 
-module _ (s : Sizes) (t c : ℕ) (root : List Record) (least : Record) (tree : List ℕ) (live : List Record) (H : Heap s t c root least tree live) where
+module _ (p : Parts) (root : List Record) (tree : List ℕ) (live : List Record) (H : Heap p root tree live) where
+  abbrev s : Sizes
+  s = p .sizes
+
+  abbrev t : ℕ
+  t = p .t
+
+  abbrev c : ℕ
+  c = p .c
+
+  abbrev least : Record
+  least = p .least
+
   abbrev T : Tree
   T = treeOf (s .z) (take (s .r) root) least tree
 
@@ -104,9 +117,9 @@ module _ (s : Sizes) (t c : ℕ) (root : List Record) (least : Record) (tree : L
         odd-none _ (stampOf t) c least (ap isDummy void ∙ is-dummy) (rw void (dummy-stands _ (stampOf t))) e
   ]
 
-  pub heap-card : badParts s t c root least ≡ false
+  pub heap-card : badParts p root ≡ false
   heap-card =
-      fit-parts s t c root least (record {
+      fit-parts p root (record {
         sizes = H .sizes;
         spent = H .spent;
         live = (H .most, H .begun);

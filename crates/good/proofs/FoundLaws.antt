@@ -24,6 +24,7 @@ use Rattle.way.specs.Evict.{seek}
 use Rattle.clearing.specs.Removal.{named, found}
 use Rattle.gather.specs.Shown.{wayShown}
 use Rattle.clearing.proofs.RemovalLaws.{member-found, found-passes}
+use Rattle.parts.specs.declared.Parts.{Parts}
 use Rattle.judge.specs.BadParts.{stampOf}
 use Rattle.sound.specs.Fetched.{pathFetched, firstFetched, secondFetched}
 use Rattle.damage.specs.Damaged.{pathDamaged, pairDamaged}
@@ -56,8 +57,20 @@ pub root-room : (h z r : ℕ) (root : List Record) (ws : List ℕ) (i : ℕ) →
 unfolding rootFull wayShown
 root-room h z r root ws i e l = seek-first r root _ e l
 
-module _ (s : Sizes) (t c : ℕ) (root : List Record) (least : Record) (tree words : List ℕ) (live : List Record)
-    (H : Heap s t c root least tree live) where
+module _ (p : Parts) (root : List Record) (tree words : List ℕ) (live : List Record)
+    (H : Heap p root tree live) where
+  abbrev s : Sizes
+  s = p .sizes
+
+  abbrev t : ℕ
+  t = p .t
+
+  abbrev c : ℕ
+  c = p .c
+
+  abbrev least : Record
+  least = p .least
+
   abbrev T : Tree
   T = treeOf (s .z) (take (s .r) root) least tree
 
@@ -66,10 +79,10 @@ module _ (s : Sizes) (t c : ℕ) (root : List Record) (least : Record) (tree wor
 
   -- FindMin and ExtractMin answer the least of all live events
   pub heap-least : least ≡ smallest live
-  heap-least = sym (root-least s t c root least tree live H) ∙ root-smallest s (stampOf t) T live (H .good)
+  heap-least = sym (root-least p root tree live H) ∙ root-smallest s (stampOf t) T live (H .good)
 
   pub least-inside : 1 ≤ c → least .label .0 < leavesOf (s .h)
-  least-inside l = live-label s (stampOf t) T live (H .good) least (least-live s t c root least tree live H l)
+  least-inside l = live-label s (stampOf t) T live (H .good) least (least-live p root tree live H l)
 
   module _ (q : Leaf) (inside : q .0 < leavesOf (s .h)) where
     abbrev way : List Record
@@ -111,11 +124,11 @@ module _ (s : Sizes) (t c : ℕ) (root : List Record) (least : Record) (tree wor
   extract-found l f picks own =
       rw (way-is (least .label) (least-inside l))
       (live-found s (least .label) (least-inside l) T live (stampOf t) (stampOf t) (omega arith) (H .good) f (least .stamp) picks least
-      (least-live s t c root least tree live H l) refl own)
+      (least-live p root tree live H l) refl own)
 
-  module _ (first second : Leaf) (p : Halves (s .h) first second) where
+  module _ (first second : Leaf) (halves : Halves (s .h) first second) where
     pub heap-pair :
         pairDamaged (s .h) (s .r) (stampOf t) least (firstFetched (s .h) (s .z) first (fetched (s .z) tree (pairList (s .h) first second) words))
         (secondFetched (s .h) (s .z) second (fetched (s .z) tree (pairList (s .h) first second) words))
         (wayShown (2 * s .h) (s .z) (s .r) root (fetched (s .z) tree (pairList (s .h) first second) words) 0) ≡ false
-    heap-pair = pair-undamaged s first second p root heap-full least tree words (H .words) live (stampOf t) (H .good)
+    heap-pair = pair-undamaged s first second halves root heap-full least tree words (H .words) live (stampOf t) (H .good)

@@ -21,6 +21,7 @@ use Rattle.path.specs.Sizes.{leavesOf, inRange}
 use Rattle.path.specs.Path.{bucket, number, root as theRoot, lowerChild, upperChild}
 use Rattle.path.specs.Layout.{Contents, freshTree}
 use Rattle.path.proofs.SizesLaws.{in-range}
+use Rattle.parts.specs.Parts.{partsFor}
 use Rattle.judge.specs.BadParts.{stampOf}
 use Rattle.copies.proofs.LayoutLaws.{in-tree}
 use Rattle.copies.proofs.ContentsLaws.{fresh-length, fresh-bucket}
@@ -110,7 +111,7 @@ module _ (s : Sizes) where
       }
 
   -- a fresh card's 64 places and a filled tree
-  pub fresh-heap : inRange s ≡ true → Heap s 0 0 (replicate 64 dummy) dummy (freshTree (s .h) (s .z)) []
+  pub fresh-heap : inRange s ≡ true → Heap (partsFor s 0 0 dummy) (replicate 64 dummy) (freshTree (s .h) (s .z)) []
   fresh-heap ok =
       let few = in-range s ok .roots .1 in
       record {

@@ -20,6 +20,7 @@ use Rattle.clearing.specs.Removal.{found, removed}
 use Rattle.gather.specs.Shown.{siblingsShown, slotsShown, wayShown}
 use Rattle.clearing.proofs.RemovalLaws.{removed-length}
 use Rattle.mend.specs.Mended.{pathWords}
+use Rattle.parts.specs.declared.Parts.{Parts}
 use Rattle.judge.specs.BadParts.{stampOf}
 use Rattle.least.specs.Least.{rootSlots}
 use Rattle.work.specs.PathWork.{pathBuckets, leastAfter}
@@ -31,6 +32,7 @@ use Rattle.tree.proofs.PathFetch.{path-way}
 use Rattle.tree.proofs.Removal.{root-after-length, removal-stored-length, tree-way-length}
 use Rattle.tree.proofs.HalvesLaws.{Halves}
 use Rattle.tree.proofs.Insertion.{insertion-stored-length, last-way-length}
+use Rattle.settle.specs.Left.{partsAfter}
 use Rattle.good.specs.Good.{Good}
 use Rattle.good.specs.Live.{without, Ascending}
 use Rattle.good.specs.Heap.{Heap}
@@ -49,8 +51,20 @@ module _ (r : ℕ) (slots root : List Record) (wide : length slots ≡ r) where
   rooted-length : r ≤ length root → length (rooted r slots root) ≡ length root
   rooted-length l = rw (length-append slots (drop r root), length-drop, wide) (omega arith)
 
-module _ (s : Sizes) (t c : ℕ) (root : List Record) (least : Record) (tree words : List ℕ) (live : List Record)
-    (H : Heap s t c root least tree live) (left : t < s .t) where
+module _ (p : Parts) (root : List Record) (tree words : List ℕ) (live : List Record)
+    (H : Heap p root tree live) (left : p .t < p .sizes .t) where
+  abbrev s : Sizes
+  s = p .sizes
+
+  abbrev t : ℕ
+  t = p .t
+
+  abbrev c : ℕ
+  c = p .c
+
+  abbrev least : Record
+  least = p .least
+
   full : s .r ≤ length root
   full = omega (arith, H .places, in-range s (H .sizes) .roots .1)
 
@@ -80,7 +94,7 @@ module _ (s : Sizes) (t c : ℕ) (root : List Record) (least : Record) (tree wor
     module _ (c′ : ℕ) (live′ : List Record) (count : c′ ≡ length live′) (fewer : c′ ≤ c) (order : Ascending live′)
         (good : Good s (stampOf (suc t)) (treeOf (s .z) (take (s .r) (rooted (s .r) (removalRoot s q f way) root)) (removalLeast s q f sibs way)
         (stored (s .z) (pathList (s .h) q .whole) (pathWords (removalBuckets s q f sibs way) ++ more) tree)) live′) where
-      removal-parts : Heap s (suc t) c′ (rooted (s .r) (removalRoot s q f way) root) (removalLeast s q f sibs way)
+      removal-parts : Heap (partsAfter p c′ (removalLeast s q f sibs way)) (rooted (s .r) (removalRoot s q f way) root)
           (stored (s .z) (pathList (s .h) q .whole) (pathWords (removalBuckets s q f sibs way) ++ more) tree) live′
       removal-parts =
           record {
@@ -97,7 +111,7 @@ module _ (s : Sizes) (t c : ℕ) (root : List Record) (least : Record) (tree wor
           }
 
     pub removal-heap : found f way ≡ true
-        → Heap s (suc t) (c - 1) (rooted (s .r) (removalRoot s q f way) root) (removalLeast s q f sibs way)
+        → Heap (partsAfter p (c - 1) (removalLeast s q f sibs way)) (rooted (s .r) (removalRoot s q f way) root)
         (stored (s .z) (pathList (s .h) q .whole) (pathWords (removalBuckets s q f sibs way) ++ more) tree) (without stamp live)
     removal-heap there =
         let n = taken-count s q inside T live (stampOf t) (stampOf (suc t)) (omega arith) (H .good) f stamp picks (rw way-is at there) in
@@ -106,7 +120,7 @@ module _ (s : Sizes) (t c : ℕ) (root : List Record) (least : Record) (tree wor
         (omega arith) more there)
 
     pub absent-heap : found f way ≡ false
-        → Heap s (suc t) c (rooted (s .r) (removalRoot s q f way) root) (removalLeast s q f sibs way)
+        → Heap (partsAfter p c (removalLeast s q f sibs way)) (rooted (s .r) (removalRoot s q f way) root)
         (stored (s .z) (pathList (s .h) q .whole) (pathWords (removalBuckets s q f sibs way) ++ more) tree) live
     absent-heap gone =
         removal-parts c live (H .count) (omega arith) (H .order)
@@ -114,7 +128,7 @@ module _ (s : Sizes) (t c : ℕ) (root : List Record) (least : Record) (tree wor
         (omega arith) more gone)
 
   -- ---- Insert
-  module _ (first second : Leaf) (p : Halves (s .h) first second) (new : Record) (stamp : new .stamp .0 ≡ t)
+  module _ (first second : Leaf) (halves : Halves (s .h) first second) (new : Record) (stamp : new .stamp .0 ≡ t)
       (proper : isProper (leavesOf (s .h)) (stampOf (suc t)) new ≡ true) (few : c < leavesOf (s .h)) (more : List ℕ) where
     abbrev ws₂ : List ℕ
     ws₂ = fetched (s .z) tree (pairList (s .h) first second) words
@@ -141,12 +155,12 @@ module _ (s : Sizes) (t c : ℕ) (root : List Record) (least : Record) (tree wor
     beside = secondBeside s first b₁ after₁ b₂
 
     pub insertion-heap : seek isDummy (s .r) way₁ < s .r
-        → Heap s (suc t) (suc c) (rooted (s .r) (rootSlots (s .r) after₂) root) (leastAfter s second beside after₂)
+        → Heap (partsAfter p (suc c) (leastAfter s second beside after₂)) (rooted (s .r) (rootSlots (s .r) after₂) root)
         (stored (s .z) (pairList (s .h) first second .whole)
         (pathWords (pathBuckets s first b₁ after₁ ++ pathBuckets s second beside after₂) ++ more) tree)
         (live ++ (new ∷ []))
     insertion-heap room =
-        let wide = root-after-length s second _ (last-way-length s first second p new root full least tree words (H .words)) in
+        let wide = root-after-length s second _ (last-way-length s first second halves new root full least tree words (H .words)) in
         record {
           sizes = H .sizes;
           spent = left;
@@ -156,9 +170,9 @@ module _ (s : Sizes) (t c : ℕ) (root : List Record) (least : Record) (tree wor
           order = append-ascending new (H .order) (λ x m. omega (arith, live-stamp s (stampOf t) T live (H .good) x m));
           places = rooted-length (s .r) (rootSlots (s .r) after₂) root wide full ∙ H .places;
           past = rw (rooted-past (s .r) (rootSlots (s .r) after₂) root wide) (H .past);
-          words = insertion-stored-length s first second p new root full least tree words (H .words) more;
+          words = insertion-stored-length s first second halves new root full least tree words (H .words) more;
           good =
-              insertion-good s first second p root full least tree words (H .words) live (stampOf t) (H .good) new (stampOf (suc t))
+              insertion-good s first second halves root full least tree words (H .words) live (stampOf t) (H .good) new (stampOf (suc t))
               (omega arith) stamp
               proper room more;
         }

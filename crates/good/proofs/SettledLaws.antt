@@ -15,8 +15,9 @@ use Rattle.path.specs.Sizes.{leavesOf}
 use Rattle.lists.specs.BucketList.{pathList, pairList}
 use Rattle.root.specs.Root.{rootFull}
 use Rattle.clearing.specs.Removal.{found}
+use Rattle.parts.specs.declared.Parts.{Parts}
 use Rattle.judge.specs.BadParts.{stampOf}
-use Rattle.settle.specs.Left.{Left, wordsLeft, pathWay, removal, insertion, removalDamaged, insertionDamaged}
+use Rattle.settle.specs.Left.{Left, wordsLeft, pathWay, partsAfter, removal, insertion, removalDamaged, insertionDamaged}
 use Rattle.copies.specs.Copy.{fetched, stored}
 use Rattle.tree.proofs.HalvesLaws.{Halves}
 use Rattle.good.specs.Live.{without}
@@ -26,53 +27,65 @@ use Rattle.good.proofs.FewLaws.{heap-card}
 use Rattle.good.proofs.HeapLaws.{removal-heap, absent-heap, insertion-heap}
 use Rattle.good.proofs.FoundLaws.{heap-full, root-room, heap-path, heap-pair}
 
-module _ (s : Sizes) (t c : ℕ) (root : List Record) (least : Record) (tree words : List ℕ) (live : List Record)
-    (H : Heap s t c root least tree live) (left : t < s .t) where
+module _ (p : Parts) (root : List Record) (tree words : List ℕ) (live : List Record)
+    (H : Heap p root tree live) (left : p .t < p .sizes .t) where
+  abbrev s : Sizes
+  s = p .sizes
+
+  abbrev t : ℕ
+  t = p .t
+
+  abbrev c : ℕ
+  c = p .c
+
+  abbrev least : Record
+  least = p .least
+
   -- ---- ExtractMin and Delete, by any test that names one event by its stamp
   module _ (q : Leaf) (inside : q .0 < leavesOf (s .h)) (f : Record → Bool) (stamp : Stamp) (picks : Picks f stamp) where
     abbrev ws : List ℕ
     ws = fetched (s .z) tree (pathList (s .h) q) words
 
     abbrev out : Left
-    out = removal s c root ws q f
+    out = removal p root ws q f
 
     -- the live events afterwards
     abbrev others : List Record
     others = cond (out .found) (without stamp live) live
 
-    pub removal-kept : Heap s (suc t) (out .c) (out .root) (out .least) (stored (s .z) (pathList (s .h) q .whole) (wordsLeft out ws) tree) others
+    pub removal-kept : Heap (partsAfter p (out .c) (out .least)) (out .root) (stored (s .z) (pathList (s .h) q .whole) (wordsLeft out ws) tree) others
     unfolding removal
     removal-kept = elim (dichotomy (found f (pathWay s root ws))) [
-      | inl gone ↦ rw gone (absent-heap s t c root least tree words live H left q inside f stamp picks _ gone)
-      | inr there ↦ rw there (removal-heap s t c root least tree words live H left q inside f stamp picks _ there)
+      | inl gone ↦ rw gone (absent-heap p root tree words live H left q inside f stamp picks _ gone)
+      | inr there ↦ rw there (removal-heap p root tree words live H left q inside f stamp picks _ there)
     ]
 
-    pub removal-undamaged : removalDamaged s t c root least ws q f ≡ false
+    pub removal-undamaged : removalDamaged p root ws q f ≡ false
     unfolding removalDamaged
     removal-undamaged =
-        rw (heap-path s t c root least tree words live H q inside, heap-card s (suc t) (out .c) (out .root) (out .least) _ others removal-kept)
+        rw (heap-path p root tree words live H q inside, heap-card (partsAfter p (out .c) (out .least)) (out .root) _ others removal-kept)
 
   -- ---- Insert
-  module _ (first second : Leaf) (p : Halves (s .h) first second) (new : Record) (stamp : new .stamp .0 ≡ t)
+  module _ (first second : Leaf) (halves : Halves (s .h) first second) (new : Record) (stamp : new .stamp .0 ≡ t)
       (proper : isProper (leavesOf (s .h)) (stampOf (suc t)) new ≡ true) (few : c < leavesOf (s .h)) (room : rootFull (s .r) root ≡ false) where
     abbrev ws₂ : List ℕ
     ws₂ = fetched (s .z) tree (pairList (s .h) first second) words
 
     abbrev out₂ : Left
-    out₂ = insertion s c root ws₂ first second new
+    out₂ = insertion p root ws₂ first second new
 
     pub insertion-kept :
-        Heap s (suc t) (out₂ .c) (out₂ .root) (out₂ .least)
+        Heap (partsAfter p (out₂ .c) (out₂ .least)) (out₂ .root)
         (stored (s .z) (pairList (s .h) first second .whole) (wordsLeft out₂ ws₂) tree) (live ++ (new ∷ []))
     unfolding insertion
     insertion-kept =
-        insertion-heap s t c root least tree words live H left first second p new stamp proper few _
-        (root-room (s .h) (s .z) (s .r) root ws₂ 0 room (heap-full s t c root least tree words live H))
+        insertion-heap p root tree words live H left first second halves new stamp proper few _
+        (root-room (s .h) (s .z) (s .r) root ws₂ 0 room (heap-full p root tree words live H))
 
-    pub insertion-undamaged : insertionDamaged s t c root least ws₂ first second new ≡ false
+    pub insertion-undamaged : insertionDamaged p root ws₂ first second new ≡ false
     unfolding insertionDamaged
     insertion-undamaged =
         rw (
-          heap-pair s t c root least tree words live H first second p,
-          heap-card s (suc t) (out₂ .c) (out₂ .root) (out₂ .least) _ (live ++ (new ∷ [])) insertion-kept,
+          heap-pair p root tree words live H first second halves,
+          heap-card (partsAfter p (out₂ .c) (out₂ .least)) (out₂ .root) _ (live ++ (new ∷ [])) insertion-kept,
         )

@@ -8,26 +8,26 @@ use lib.ListN.{length, take, drop}
 use Rattle.record.specs.declared.Record.{Record}
 use Rattle.record.specs.Standing.{isDummy}
 use Rattle.record.specs.Many.{every}
-use Rattle.path.specs.declared.sizes.Sizes.{Sizes}
 use Rattle.path.specs.Sizes.{leavesOf, inRange}
 use Rattle.path.specs.Layout.{treeWords}
+use Rattle.parts.specs.declared.Parts.{Parts}
 use Rattle.judge.specs.BadParts.{stampOf}
 use Rattle.tree.specs.Tree.{treeOf}
 use Rattle.good.specs.Good.{Good}
 use Rattle.good.specs.Live.{Ascending}
 
-pub record Heap (s : Sizes) (t c : ℕ) (root : List Record) (least : Record) (tree : List ℕ) (live : List Record) : Type 0 where
-  pub sizes : inRange s ≡ true
-  pub spent : t ≤ s .t
+pub record Heap (p : Parts) (root : List Record) (tree : List ℕ) (live : List Record) : Type 0 where
+  pub sizes : inRange (p .sizes) ≡ true
+  pub spent : p .t ≤ p .sizes .t
   -- "the count c of live events", "at most N events live"
-  pub count : c ≡ length live
-  pub most : c ≤ leavesOf (s .h)
-  pub begun : c ≤ t
+  pub count : p .c ≡ length live
+  pub most : p .c ≤ leavesOf (p .sizes .h)
+  pub begun : p .c ≤ p .t
   -- the live events in the order of insertion
   pub order : Ascending live
   -- the root's 64 places, those past R with the dummy
   pub places : length root ≡ 64
-  pub past : every isDummy (drop (s .r) root) ≡ true
+  pub past : every isDummy (drop (p .sizes .r) root) ≡ true
   -- "The tree has exactly 4(Z+1)(2N-2) words."
-  pub words : length tree ≡ treeWords (s .h) (s .z)
-  pub good : Good s (stampOf t) (treeOf (s .z) (take (s .r) root) least tree) live
+  pub words : length tree ≡ treeWords (p .sizes .h) (p .sizes .z)
+  pub good : Good (p .sizes) (stampOf (p .t)) (treeOf (p .sizes .z) (take (p .sizes .r) root) (p .least) tree) live

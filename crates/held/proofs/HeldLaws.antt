@@ -1,15 +1,18 @@
 -- Every call refuses the card that takes the place of one that there is not, with 13. Assumes nothing.
 use Prim.Native.Nat.{ℕ}
 use mathlib.Core.Bool.{Bool, true, false}
-use mathlib.Core.List.{List}
+use mathlib.Core.List.{List, append-nil}
 use mathlib.Core.Path.{_≡_, refl, sym, _∙_}
+use lib.ListN.{length}
 use Rattle.path.specs.Sizes.{inRange, treeIn, between}
 use Rattle.refusal.specs.Refusal.{firstGiven}
+use Rattle.checks.specs.declared.Call.{Call}
+use Rattle.checks.specs.declared.Call.the-variants.{Min, Withdraw, Begin, Finish}
+use Rattle.checks.specs.Checks.{callRows}
 use Rattle.card.specs.declared.Card.{Card}
-use Rattle.request.specs.declared.Waiting.{Waiting}
 use Rattle.card.specs.BadCard.{badCard}
-use Rattle.card.specs.Calls.{beginTable, minTable, withdrawTable}
-use Rattle.card.specs.Finish.{entryTable, finishTable}
+use Rattle.card.specs.Calls.{callTable}
+use Rattle.card.specs.Finish.{finishTable}
 use Rattle.card.proofs.GoodLaws.{good}
 use Rattle.image.specs.Reading.{cardIn, oddKind}
 use Rattle.held.specs.Held.{noCard, heldIn}
@@ -23,21 +26,15 @@ unfolding inRange treeIn between
 none-bad = bad-sizes noCard refl (badCard noCard) refl
 
 -- what the tables of the calls on a card say of it
-pub none-begins : (w : Waiting) (room : ℕ) → firstGiven (beginTable noCard w room) ≡ 13
-unfolding beginTable firstGiven
-none-begins w room = rw none-bad
-
-pub none-least : firstGiven (minTable noCard) ≡ 13
-unfolding minTable firstGiven
-none-least = rw none-bad
-
-pub none-withdraws : firstGiven (withdrawTable noCard) ≡ 13
-unfolding withdrawTable firstGiven
-none-withdraws = rw none-bad
+pub none-called : (call : Call) → firstGiven (callTable noCard call) ≡ 13
+unfolding callTable callRows firstGiven
+none-called Min = rw none-bad
+none-called Withdraw = rw none-bad
+none-called (Begin r room) = rw none-bad
+none-called (Finish room) = rw none-bad
 
 pub none-finishes : (fetched : List ℕ) → firstGiven (finishTable noCard fetched) ≡ 13
-unfolding entryTable firstGiven
-none-finishes fetched = rw none-bad
+none-finishes fetched = rw append-nil (none-called (Finish (length fetched)))
 
 pub held-odd : (ws : List ℕ) → oddKind ws ≡ true → heldIn ws ≡ noCard
 unfolding heldIn

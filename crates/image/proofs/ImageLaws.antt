@@ -16,10 +16,12 @@ use Rattle.record.proofs.WordsLaws.{words-append, words-length, words-records, 
 use Rattle.path.specs.declared.sizes.Sizes.{Sizes}
 use Rattle.gather.specs.Laid.{laidOver}
 use Rattle.gather.proofs.LaidLaws.{laid-length, laid-more, written-laid}
+use Rattle.parts.specs.declared.Parts.{Parts}
 use Rattle.card.specs.declared.Card.{Card}
 use Rattle.request.specs.declared.Waiting.{Waiting}
-use Rattle.request.specs.declared.Waiting.the-variants.{Nothing, Insert, Extract, Delete}
-use Rattle.card.specs.Tables.{cardOf}
+use Rattle.request.specs.declared.Waiting.the-variants.{Nothing, For}
+use Rattle.request.specs.declared.Request.the-variants.{Insert, Extract, Delete}
+use Rattle.card.specs.Tables.{partsOf, cardOf}
 use Rattle.kinds.specs.Kinds.{requestWords, waitingOf}
 use Rattle.kinds.proofs.KindLaws.{request-length, even-request}
 use Rattle.image.specs.Image.{cardWords, headOf, imageOf}
@@ -89,18 +91,16 @@ root-read ws none room few =
     let n = records-length (drop 16 ws) 64 (length-drop 16 ws ∙ omega arith) in
     rw (part-to-end, take-all 64 (records (drop 16 ws)) (omega arith), drop-of-length-le none {i = 64} (omega arith), append-nil)
 
-parts-read : (s : Sizes) (t c : ℕ) (w : Waiting) (least : Record) (root : List Record)
-    → cardIn (headOf s t c w ++ wordsOf (least ∷ root)) ≡ cardOf s t c root least w
-unfolding cardIn requestWords wordsOf waitingOf
-parts-read s t c Nothing least root = ap (λ (l : List Record). cardOf s t c l least Nothing) (records-words root)
-parts-read s t c (Insert key value label first second) least root = ap (λ (l : List Record). cardOf s t c l least (Insert key value label first second)) (records-words root)
-parts-read s t c Extract least root = ap (λ (l : List Record). cardOf s t c l least Extract) (records-words root)
-parts-read s t c (Delete label stamp) least root = ap (λ (l : List Record). cardOf s t c l least (Delete label stamp)) (records-words root)
+parts-read : (p : Parts) (root : List Record) (w : Waiting) → cardIn (imageOf (cardOf p root w)) ≡ cardOf p root w
+unfolding cardIn imageOf requestWords wordsOf waitingOf
+parts-read p root Nothing = ap (λ (l : List Record). cardOf p l Nothing) (records-words root)
+parts-read p root (For (Insert key value label first second)) = ap (λ (l : List Record). cardOf p l (For (Insert key value label first second))) (records-words root)
+parts-read p root (For Extract) = ap (λ (l : List Record). cardOf p l (For Extract)) (records-words root)
+parts-read p root (For (Delete label stamp)) = ap (λ (l : List Record). cardOf p l (For (Delete label stamp))) (records-words root)
 
 -- what was written is read back, whatever the card holds
 pub card-image : (k : Card) → cardIn (imageOf k) ≡ k
-unfolding imageOf
-card-image k = parts-read (k .sizes) (k .t) (k .c) (k .waiting) (k .least) (k .root)
+card-image k = parts-read (partsOf k) (k .root) (k .waiting)
 
 -- its kind is one of the four
 pub image-even : (k : Card) → oddKind (imageOf k) ≡ false

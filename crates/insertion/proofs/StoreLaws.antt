@@ -15,7 +15,9 @@ use Rattle.path.specs.Layout.{recordWords, bucketWords}
 use Rattle.lists.specs.BucketList.{wordsMoved, pairList, moved}
 use Rattle.lists.proofs.ListLaws.{moved-by-counts, pair-counts, next-part}
 use Rattle.writing.specs.Stored.{StoreRoom, Stored}
-use Rattle.settle.specs.Room.{Cut, InsertionRoom}
+use Rattle.parts.specs.declared.Parts.{Parts}
+use Rattle.path.specs.Cut.{Cut}
+use Rattle.settle.specs.Room.{InsertionRoom}
 use Rattle.settle.specs.declared.Settled.{Settled}
 use Rattle.settle.specs.Settled.{Writes}
 use Rattle.insertion.specs.Store.{PairStoreRoom}
@@ -34,11 +36,12 @@ pair-few s n cut e =
     omega arith
 
 -- the words of both paths' buckets are there
-pub pair-room : (s : Sizes) (t c : ℕ) (first second : Leaf) (ws one two : List ℕ) → InsertionRoom s t c first second ws
-    → length one ≡ s .h * bucketWords (s .z) → length two ≡ s .h * bucketWords (s .z) → PairStoreRoom s ws one two
-pair-room s t c first second ws one two room e f =
+pub pair-room : (p : Parts) (first second : Leaf) (ws one two : List ℕ) → InsertionRoom p first second ws
+    → length one ≡ p .sizes .h * bucketWords (p .sizes .z) → length two ≡ p .sizes .h * bucketWords (p .sizes .z)
+    → PairStoreRoom (p .sizes) ws one two
+pair-room p first second ws one two room e f =
     let k = room .fetched in
-    let same : s .h * bucketWords (s .z) ≡ 4 * (s .h * (s .z + 1)) = omega arith in
+    let same : p .sizes .h * bucketWords (p .sizes .z) ≡ 4 * (p .sizes .h * (p .sizes .z + 1)) = omega arith in
     record { sizes = room .parts .sizes; lower = e; upper = f; room = omega arith }
 
 module _ (s : Sizes) (ws one two : List ℕ) (room : PairStoreRoom s ws one two) where

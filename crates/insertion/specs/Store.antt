@@ -5,7 +5,7 @@ use mathlib.Core.Path.{_≡_}
 use lib.ListN.{length}
 use Rattle.path.specs.declared.sizes.Sizes.{Sizes}
 use Rattle.path.specs.Layout.{bucketWords}
-use Rattle.settle.specs.Room.{Cut}
+use Rattle.path.specs.Cut.{Cut}
 
 -- what is asked: sizes in range, the words of both paths' buckets, and room for them
 pub record PairStoreRoom (s : Sizes) (words one two : List ℕ) : Type 0 where

@@ -10,6 +10,7 @@ ghost use Rattle.settle.specs.Left.{insertion, insertionDamaged};
 ghost use Rattle.settle.specs.Settled.{Settles, Writes};
 ghost use Rattle.settle.specs.Room.{InsertionRoom};
 ghost use Rattle.insertion.specs.Store.{PairStoreRoom};
+use parts::Parts;
 use path::Sizes;
 use record::Leaf;
 use record::Record;
@@ -45,34 +46,20 @@ fn write_insertion(
 pub fn settle_insertion(
     words: &mut [u64],
     root: [Record; 64],
-    sizes: Sizes,
-    t: u64,
-    c: u64,
-    least: Record,
-    new: Record,
+    parts: Parts,
     first: Leaf,
     second: Leaf,
+    new: Record,
 ) -> Settled
-    requires { ⌜ InsertionRoom sizes t c first second (now words) ⌝ }
-    ensures { λ out. ⌜ Settles root least c (insertionDamaged sizes t c root least (now (words .entry)) first second new) (insertion sizes c root (now (words .entry)) first second new) (wordsMoved (sizes .z) (pairList (sizes .h) first second)) (now (words .entry)) (now (words .exit)) out ⌝ }
+    requires { ⌜ InsertionRoom parts first second (now words) ⌝ }
+    ensures { λ out. ⌜ Settles parts root (insertionDamaged parts root (now (words .entry)) first second new) (insertion parts root (now (words .entry)) first second new) (wordsMoved (parts .sizes .z) (pairList (parts .sizes .h) first second)) (now (words .entry)) (now (words .exit)) out ⌝ }
 {
+    let sizes = parts.sizes;
     let buckets = path_words(sizes);
     let mut lower = [0u64; PATH_MOST];
     let mut upper = [0u64; PATH_MOST];
     let one = &mut lower[0..buckets];
     let two = &mut upper[0..buckets];
-    let out = prepare::prepare_insertion(
-        words,
-        one,
-        two,
-        root,
-        sizes,
-        t,
-        c,
-        least,
-        new,
-        first,
-        second,
-    );
+    let out = prepare::prepare_insertion(words, one, two, root, parts, first, second, new);
     write_insertion(words, one, two, sizes, out)
 }

@@ -14,8 +14,8 @@ use Rattle.record.specs.Order.{noLater}
 use Rattle.record.specs.Many.{every, reals, stampTwice}
 use Rattle.record.specs.Words.{records}
 use Rattle.record.proofs.WordsLaws.{records-take, records-drop}
-use Rattle.path.specs.declared.sizes.Sizes.{Sizes}
 use Rattle.path.specs.Sizes.{leavesOf}
+use Rattle.parts.specs.declared.Parts.{Parts}
 use Rattle.root.specs.Root.{strangeSlot, usedPast, stampShared, rootRecords, greaterThanSome, slotsFine}
 use Rattle.judge.specs.BadParts.{stampOf, badSizes, overSpent, overLive, badRoot, badLeast, badParts, oddLeast, rootFails}
 
@@ -33,27 +33,28 @@ regroup true false m p d o = simp or-true
 regroup true true false p d o = simp or-true
 regroup true true true p d o = simp or-false
 
-module _ (s : Sizes) (t c : ℕ) (root : List Record) (least : Record) where
+module _ (p : Parts) (root : List Record) where
   abbrev slots : List Record
-  slots = take (s .r) root
+  slots = take (p .sizes .r) root
 
   abbrev n : ℕ
-  n = leavesOf (s .h)
+  n = leavesOf (p .sizes .h)
 
-  root-regroups :
-      (badRoot s t c root least || badLeast s t c root least)
-      ≡ (rootFails (s .r) root n (stampOf t) c least || oddLeast n (stampOf t) c least)
+  abbrev odd : Bool
+  odd = oddLeast n (stampOf (p .t)) (p .c) (p .least)
+
+  abbrev fails : Bool
+  fails = rootFails (p .sizes .r) root n (stampOf (p .t)) (p .c) (p .least)
+
+  root-regroups : (badRoot p root || badLeast p root) ≡ (fails || odd)
   unfolding strangeSlot usedPast stampShared rootRecords greaterThanSome slotsFine
   root-regroups =
-      rw (← not-leb (reals slots) c)
-      (regroup (every (mayStand n (stampOf t)) slots) (every (λ x. isDummy x || noLater least x) slots)
-      (leb (reals slots) c) (usedPast (s .r) root) (stampShared (s .r) root) (oddLeast n (stampOf t) c least))
+      rw (← not-leb (reals slots) (p .c))
+      (regroup (every (mayStand n (stampOf (p .t))) slots) (every (λ x. isDummy x || noLater (p .least) x) slots)
+      (leb (reals slots) (p .c)) (usedPast (p .sizes .r) root) (stampShared (p .sizes .r) root) odd)
 
   -- BadCard, one test after the other
-  pub bad-in-turn :
-      badParts s t c root least
-      ≡ (badSizes s t c root least || (overSpent s t c root least || (overLive s t c root least
-      || (rootFails (s .r) root n (stampOf t) c least || oddLeast n (stampOf t) c least))))
+  pub bad-in-turn : badParts p root ≡ (badSizes p || (overSpent p || (overLive p || (fails || odd))))
   unfolding badParts
   bad-in-turn = rw root-regroups
 

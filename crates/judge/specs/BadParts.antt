@@ -8,8 +8,8 @@ use lib.ListN.{take}
 use Rattle.record.specs.declared.Stamp.{Stamp}
 use Rattle.record.specs.declared.Record.{Record}
 use Rattle.record.specs.Standing.{isDummy, mayStand}
-use Rattle.path.specs.declared.sizes.Sizes.{Sizes}
 use Rattle.path.specs.Sizes.{leavesOf, inRange}
+use Rattle.parts.specs.declared.Parts.{Parts}
 use Rattle.root.specs.Root.{strangeSlot, usedPast, stampShared, rootRecords, greaterThanSome, slotsFine}
 
 -- "root's least dummy while c is above 0, or other than the dummy while c = 0, or neither the dummy nor proper"
@@ -21,32 +21,31 @@ oddLeast leaves next c least =
 abbrev pub stampOf : ℕ → Stamp
 stampOf t = record { 0 = t }
 
-module _ (s : Sizes) (t c : ℕ) (root : List Record) (least : Record) where
-  -- "sizes out of range"
-  abbrev pub badSizes : Bool
-  badSizes = not (inRange s)
+-- "sizes out of range"
+abbrev pub badSizes : Parts → Bool
+badSizes p = not (inRange (p .sizes))
 
-  -- "t above T"
-  abbrev pub overSpent : Bool
-  overSpent = ltb (s .t) t
+-- "t above T"
+abbrev pub overSpent : Parts → Bool
+overSpent p = ltb (p .sizes .t) (p .t)
 
-  -- "c above N or t"
-  abbrev pub overLive : Bool
-  overLive = ltb (leavesOf (s .h)) c || ltb t c
+-- "c above N or t"
+abbrev pub overLive : Parts → Bool
+overLive p = ltb (leavesOf (p .sizes .h)) (p .c) || ltb (p .t) (p .c)
 
-  -- "a root slot that is neither proper nor dummy; slots past R not dummy; two root records with one stamp; more root
-  -- records than c"
-  abbrev pub badRoot : Bool
-  badRoot =
-      strangeSlot (s .r) root (leavesOf (s .h)) (stampOf t)
-      || (usedPast (s .r) root || (stampShared (s .r) root || ltb c (rootRecords (s .r) root)))
+-- "a root slot that is neither proper nor dummy; slots past R not dummy; two root records with one stamp; more root
+-- records than c"
+abbrev pub badRoot : Parts → List Record → Bool
+badRoot p root =
+    strangeSlot (p .sizes .r) root (leavesOf (p .sizes .h)) (stampOf (p .t))
+    || (usedPast (p .sizes .r) root || (stampShared (p .sizes .r) root || ltb (p .c) (rootRecords (p .sizes .r) root)))
 
-  -- "root's least .. greater than some root record", and the clauses of `oddLeast`
-  abbrev pub badLeast : Bool
-  badLeast = oddLeast (leavesOf (s .h)) (stampOf t) c least || greaterThanSome (s .r) root least
+-- "root's least .. greater than some root record", and the clauses of `oddLeast`
+abbrev pub badLeast : Parts → List Record → Bool
+badLeast p root = oddLeast (leavesOf (p .sizes .h)) (stampOf (p .t)) (p .c) (p .least) || greaterThanSome (p .sizes .r) root (p .least)
 
-  unfoldable pub badParts : Bool
-  badParts = badSizes || (overSpent || (overLive || (badRoot || badLeast)))
+unfoldable pub badParts : Parts → List Record → Bool
+badParts p root = badSizes p || (overSpent p || (overLive p || (badRoot p root || badLeast p root)))
 
 -- the root fails in one of the clauses of `badRoot`, or in that the least record is greater than some record of the root:
 -- what the passes over the root find out

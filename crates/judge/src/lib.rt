@@ -1,12 +1,12 @@
 // BadCard on a card's parts, all but the waiting request: document 01, "Refusal numbers". The root goes in as words, four to
 // a place, so that nothing copies 64 records. The card that a call is given and the card that a finish would send out are
-// judged by the same function. Stands on `record`, `path`, `root`, `stamps`.
+// judged by the same function. Stands on `record`, `path`, `root`, `parts`, `stamps`.
 ghost use mathlib.Core.Path.{_≡_};
 ghost use Prim.Native.Nat.{_≤_};
 ghost use lib.ListN.{length};
 ghost use Rattle.record.specs.Words.{records};
 ghost use Rattle.judge.specs.BadParts.{oddLeast, rootFails, badParts};
-use path::Sizes;
+use parts::Parts;
 use path::leaves;
 use record::RECORD_WORDS;
 use record::Record;
@@ -40,25 +40,27 @@ fn is_root_bad(root: &[u64], r: usize, n: u64, next: Stamp, c: u64, least: Recor
 }
 
 // For crates above: BadCard but for the waiting request, whatever the numbers are.
-pub fn are_parts_bad(root: &[u64], sizes: Sizes, t: u64, c: u64, least: Record) -> bool
+pub fn are_parts_bad(root: &[u64], parts: Parts) -> bool
     requires { ⌜ length (now root) ≡ 256 ⌝ }
-    ensures { λ b. ⌜ b ≡ badParts sizes t c (records (now (root .entry))) least ⌝ }
+    ensures { λ b. ⌜ b ≡ badParts parts (records (now (root .entry))) ⌝ }
 {
+    let sizes = parts.sizes;
     if !sizes.in_range() {
         return true;
     }
-    if t > sizes.t {
+    if parts.t > sizes.t {
         return true;
     }
     let n = leaves(sizes.h);
-    if c > n {
+    if parts.c > n {
         return true;
     }
-    if c > t {
+    if parts.c > parts.t {
         return true;
     }
-    if is_root_bad(root, sizes.r as usize, n, Stamp(t), c, least) {
+    let least = parts.least;
+    if is_root_bad(root, sizes.r as usize, n, Stamp(parts.t), parts.c, least) {
         return true;
     }
-    is_least_odd(n, Stamp(t), c, least)
+    is_least_odd(n, Stamp(parts.t), parts.c, least)
 }

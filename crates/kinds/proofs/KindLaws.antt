@@ -6,7 +6,8 @@ use mathlib.Core.Path.{_≡_, refl}
 use lib.Dec.{ltb}
 use lib.ListN.{length, getD}
 use Rattle.request.specs.declared.Waiting.{Waiting}
-use Rattle.request.specs.declared.Waiting.the-variants.{Nothing, Insert, Extract, Delete}
+use Rattle.request.specs.declared.Waiting.the-variants.{Nothing, For}
+use Rattle.request.specs.declared.Request.the-variants.{Insert, Extract, Delete}
 use Rattle.kinds.specs.Kinds.{requestWords}
 
 pub request-words : (w : Waiting)
@@ -15,21 +16,21 @@ pub request-words : (w : Waiting)
     ≡ requestWords w
 unfolding requestWords
 request-words Nothing = refl
-request-words (Insert key value label first second) = refl
-request-words Extract = refl
-request-words (Delete label stamp) = refl
+request-words (For (Insert key value label first second)) = refl
+request-words (For Extract) = refl
+request-words (For (Delete label stamp)) = refl
 
 pub request-length : (w : Waiting) → length (requestWords w) ≡ 6
 unfolding requestWords
 request-length Nothing = refl
-request-length (Insert key value label first second) = refl
-request-length Extract = refl
-request-length (Delete label stamp) = refl
+request-length (For (Insert key value label first second)) = refl
+request-length (For Extract) = refl
+request-length (For (Delete label stamp)) = refl
 
 -- the kind is one of the four
 pub even-request : (w : Waiting) (rest : List ℕ) → ltb 3 (getD (requestWords w ++ rest) 0 0) ≡ false
 unfolding requestWords
 even-request Nothing rest = refl
-even-request (Insert key value label first second) rest = refl
-even-request Extract rest = refl
-even-request (Delete label stamp) rest = refl
+even-request (For (Insert key value label first second)) rest = refl
+even-request (For Extract) rest = refl
+even-request (For (Delete label stamp)) rest = refl

@@ -5,6 +5,7 @@ ghost use mathlib.Core.Path.{_≡_};
 ghost use Rattle.kinds.specs.Kinds.{requestWords, waitingOf};
 use record::Leaf;
 use record::Stamp;
+use request::Request;
 use request::Waiting;
 
 // The kinds of a waiting request. A card is never read with another: whoever lends one is told that it is bad.
@@ -24,22 +25,25 @@ pub fn waiting_of(kind: u64, a: u64, b: u64, c: u64, d: u64, e: u64) -> Waiting
     ensures { λ w. ⌜ w ≡ waitingOf kind a b c d e ⌝ }
 {
     if kind == KIND_INSERT {
-        return Waiting::Insert {
+        let request = Request::Insert {
             key: a,
             value: b,
             label: Leaf(c),
             first: Leaf(d),
             second: Leaf(e),
         };
+        return Waiting::For(request);
     }
     if kind == KIND_EXTRACT {
-        return Waiting::Extract;
+        let request = Request::Extract;
+        return Waiting::For(request);
     }
     if kind == KIND_DELETE {
-        return Waiting::Delete {
+        let request = Request::Delete {
             label: Leaf(a),
             stamp: Stamp(b),
         };
+        return Waiting::For(request);
     }
     Waiting::Nothing
 }
@@ -48,16 +52,18 @@ pub fn waiting_of(kind: u64, a: u64, b: u64, c: u64, d: u64, e: u64) -> Waiting
 pub fn request_words(waiting: Waiting) -> [u64; REQUEST_WORDS]
     ensures { λ r. ⌜ r ≡ requestWords waiting ⌝ }
 {
-    match waiting {
-        Waiting::Nothing => [KIND_NOTHING, 0, 0, 0, 0, 0],
-        Waiting::Insert {
+    let Waiting::For(request) = waiting else {
+        return [KIND_NOTHING, 0, 0, 0, 0, 0];
+    };
+    match request {
+        Request::Insert {
             key,
             value,
             label,
             first,
             second,
         } => [KIND_INSERT, key, value, label.0, first.0, second.0],
-        Waiting::Extract => [KIND_EXTRACT, 0, 0, 0, 0, 0],
-        Waiting::Delete { label, stamp } => [KIND_DELETE, label.0, stamp.0, 0, 0, 0],
+        Request::Extract => [KIND_EXTRACT, 0, 0, 0, 0, 0],
+        Request::Delete { label, stamp } => [KIND_DELETE, label.0, stamp.0, 0, 0, 0],
     }
 }

@@ -6,14 +6,12 @@
 // written as the law has it.
 ghost use Rattle.refusal.specs.Refusal.{firstGiven};
 ghost use Rattle.path.specs.Sizes.{sizesOf};
-ghost use Rattle.request.specs.declared.Waiting.{Waiting};
 ghost use Rattle.card.specs.Answers.{Answered};
 ghost use Rattle.card.specs.Calls.{startTable, started, Begins, minTable, foundMin, withdrawTable, withdrawn};
 ghost use Rattle.card.specs.Finish.{Finishes};
 use card::Card;
 use card::Done;
-use record::Leaf;
-use record::Stamp;
+use request::Request;
 
 // A refused start leaves the card that stood.
 pub fn start(mut card: Card, h: u64, z: u64, r: u64, t: u64) -> Done
@@ -26,38 +24,10 @@ pub fn start(mut card: Card, h: u64, z: u64, r: u64, t: u64) -> Done
     }
 }
 
-pub fn begin_insert(
-    mut card: Card,
-    key: u64,
-    value: u64,
-    label: Leaf,
-    first: Leaf,
-    second: Leaf,
-    list: &mut [u64],
-) -> Done
-    ensures { λ d. ⌜ Begins card (Waiting.Insert key value label first second) (now (list .entry)) (now (list .exit)) d ⌝ }
+pub fn begin(mut card: Card, request: Request, list: &mut [u64]) -> Done
+    ensures { λ d. ⌜ Begins card request (now (list .entry)) (now (list .exit)) d ⌝ }
 {
-    let answer = lent::begin_insert(&mut card, key, value, label, first, second, list);
-    Done {
-        card: card,
-        answer: answer,
-    }
-}
-
-pub fn begin_extract(mut card: Card, list: &mut [u64]) -> Done
-    ensures { λ d. ⌜ Begins card Waiting.Extract (now (list .entry)) (now (list .exit)) d ⌝ }
-{
-    let answer = lent::begin_extract(&mut card, list);
-    Done {
-        card: card,
-        answer: answer,
-    }
-}
-
-pub fn begin_delete(mut card: Card, label: Leaf, stamp: Stamp, list: &mut [u64]) -> Done
-    ensures { λ d. ⌜ Begins card (Waiting.Delete label stamp) (now (list .entry)) (now (list .exit)) d ⌝ }
-{
-    let answer = lent::begin_delete(&mut card, label, stamp, list);
+    let answer = lent::begin(&mut card, request, list);
     Done {
         card: card,
         answer: answer,

@@ -7,7 +7,6 @@
 // written as the law has it: `let done = card.CALL(..); *card = done.card; done.answer`.
 ghost use Rattle.refusal.specs.Refusal.{firstGiven};
 ghost use Rattle.path.specs.Sizes.{sizesOf};
-ghost use Rattle.request.specs.declared.Waiting.{Waiting};
 ghost use Rattle.card.specs.Answers.{Answered};
 ghost use Rattle.card.specs.Calls.{startTable, started, Begins, minTable, foundMin, withdrawTable, withdrawn};
 ghost use Rattle.card.specs.Finish.{Finishes};
@@ -18,8 +17,7 @@ mod afresh;
 use afresh::start_over;
 use answers::Answer;
 use card::Card;
-use record::Leaf;
-use record::Stamp;
+use request::Request;
 
 pub fn start(card: &mut Card, h: u64, z: u64, r: u64, t: u64) -> Answer
     ensures { λ a. ⌜ Answered (now (card .entry)) (firstGiven (startTable (sizesOf h z r t))) (started (sizesOf h z r t)) (handed (now (card .exit)) a) ⌝ }
@@ -29,34 +27,10 @@ pub fn start(card: &mut Card, h: u64, z: u64, r: u64, t: u64) -> Answer
     done.answer
 }
 
-pub fn begin_insert(
-    card: &mut Card,
-    key: u64,
-    value: u64,
-    label: Leaf,
-    first: Leaf,
-    second: Leaf,
-    list: &mut [u64],
-) -> Answer
-    ensures { λ a. ⌜ Begins (now (card .entry)) (Waiting.Insert key value label first second) (now (list .entry)) (now (list .exit)) (handed (now (card .exit)) a) ⌝ }
+pub fn begin(card: &mut Card, request: Request, list: &mut [u64]) -> Answer
+    ensures { λ a. ⌜ Begins (now (card .entry)) request (now (list .entry)) (now (list .exit)) (handed (now (card .exit)) a) ⌝ }
 {
-    let done = card.begin_insert(key, value, label, first, second, list);
-    *card = done.card;
-    done.answer
-}
-
-pub fn begin_extract(card: &mut Card, list: &mut [u64]) -> Answer
-    ensures { λ a. ⌜ Begins (now (card .entry)) Waiting.Extract (now (list .entry)) (now (list .exit)) (handed (now (card .exit)) a) ⌝ }
-{
-    let done = card.begin_extract(list);
-    *card = done.card;
-    done.answer
-}
-
-pub fn begin_delete(card: &mut Card, label: Leaf, stamp: Stamp, list: &mut [u64]) -> Answer
-    ensures { λ a. ⌜ Begins (now (card .entry)) (Waiting.Delete label stamp) (now (list .entry)) (now (list .exit)) (handed (now (card .exit)) a) ⌝ }
-{
-    let done = card.begin_delete(label, stamp, list);
+    let done = card.begin(request, list);
     *card = done.card;
     done.answer
 }

@@ -2,19 +2,21 @@
 use crate::told;
 use answers::Answer;
 use card::Card;
-use card::Done;
 use record::Leaf;
 use record::Stamp;
+use request::Request;
 
 // What was listed is fetched, worked on and stored back; a refused begin is answered as it is.
-fn round(begun: Done, list: &[u64], tree: &mut [u64]) -> Card {
+fn round(card: Card, tree: &mut [u64], request: Request) -> Card {
+    let mut list = [0u64; 6];
+    let begun = lender::begin(card, request, &mut list);
     let answer = begun.answer;
     match answer {
         Answer::Listed { whole, least } => {
             let mut words = [0u64; 44];
-            rack::fetch(2, 1, tree, list, whole, least, &mut words);
+            rack::fetch(2, 1, tree, &list, whole, least, &mut words);
             let done = lender::finish(begun.card, &mut words);
-            rack::store(2, 1, tree, list, whole, least, &words);
+            rack::store(2, 1, tree, &list, whole, least, &words);
             told(done)
         }
         _ => told(begun),
@@ -22,21 +24,27 @@ fn round(begun: Done, list: &[u64], tree: &mut [u64]) -> Card {
 }
 
 fn insert(card: Card, tree: &mut [u64], key: u64, value: u64, label: Leaf) -> Card {
-    let mut list = [0u64; 6];
-    let begun = lender::begin_insert(card, key, value, label, Leaf(1), Leaf(2), &mut list);
-    round(begun, &list, tree)
+    let request = Request::Insert {
+        key: key,
+        value: value,
+        label: label,
+        first: Leaf(1),
+        second: Leaf(2),
+    };
+    round(card, tree, request)
 }
 
 fn extract(card: Card, tree: &mut [u64]) -> Card {
-    let mut list = [0u64; 4];
-    let begun = lender::begin_extract(card, &mut list);
-    round(begun, &list, tree)
+    let request = Request::Extract;
+    round(card, tree, request)
 }
 
 fn delete(card: Card, tree: &mut [u64], label: Leaf, stamp: Stamp) -> Card {
-    let mut list = [0u64; 4];
-    let begun = lender::begin_delete(card, label, stamp, &mut list);
-    round(begun, &list, tree)
+    let request = Request::Delete {
+        label: label,
+        stamp: stamp,
+    };
+    round(card, tree, request)
 }
 
 // Lines 2 to 4 of the sample: the last finds the root full.

@@ -7,7 +7,8 @@ use native.Mathlib.Omega.{arith}
 use lib.Dec.{eqb·suc-zero}
 use lib.ListN.{length, take, drop}
 use borrow.Author.Tests.{le-leb, lt-leb}
-use Rattle.lines.specs.declared.Line.the-variants.{Unreadable, Min, Extract}
+use Rattle.lines.specs.declared.Line.the-variants.{Unreadable, Min, Ask}
+use Rattle.request.specs.declared.Request.the-variants.{Extract}
 use Rattle.fields.specs.Pieces.{before, sameBytes}
 use Rattle.fields.specs.Behind.{behind, allNumbers, Numbered}
 use Rattle.fields.proofs.PiecesLaws.{before-fits, before-head, fields-first, behind-none, behind-next}
@@ -30,7 +31,7 @@ module _ (line : List ℕ) (from : ℕ) where
   unfolding saidOf allNumbers
   min-alone l = rw (behind-none line from l)
 
-  pub extract-alone : length line ≤ from → Extract ≡ saidOf extractKind (behind (drop from line))
+  pub extract-alone : length line ≤ from → Ask Extract ≡ saidOf extractKind (behind (drop from line))
   unfolding saidOf allNumbers
   extract-alone l = rw (behind-none line from l)
 

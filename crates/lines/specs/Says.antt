@@ -6,11 +6,12 @@ use lib.Dec.{eqb, leb}
 use lib.ListN.{length, getD}
 use Rattle.record.specs.declared.Leaf.{Leaf}
 use Rattle.record.specs.declared.Stamp.{Stamp}
+use Rattle.request.specs.declared.Request.the-variants.{Insert, Extract, Delete}
 use Rattle.decimal.specs.Digits.{value}
 use Rattle.fields.specs.Pieces.{pieces, fieldsOf, sameBytes}
 use Rattle.fields.specs.Behind.{allNumbers}
 use Rattle.lines.specs.declared.Line.{Line}
-use Rattle.lines.specs.declared.Line.the-variants.{Unreadable, Size, Insert, Min, Extract, Delete}
+use Rattle.lines.specs.declared.Line.the-variants.{Unreadable, Size, Min, Ask}
 
 -- the lines of an input: "A line ends at byte 10", "the last line may lack its line end"; what stands behind the last byte 10 is a line
 -- only if it is not empty
@@ -49,7 +50,7 @@ abbrev pub insertKind : Kind
 insertKind = record {
   word = 105 ∷ 110 ∷ 115 ∷ 101 ∷ 114 ∷ 116 ∷ [];
   count = 5;
-  says = λ n. Insert (at n 0) (at n 1) (leafAt n 2) (leafAt n 3) (leafAt n 4);
+  says = λ n. Ask (Insert (at n 0) (at n 1) (leafAt n 2) (leafAt n 3) (leafAt n 4));
 }
 
 -- "`min`"
@@ -58,14 +59,14 @@ minKind = record { word = 109 ∷ 105 ∷ 110 ∷ []; count = 0; says = λ n. Mi
 
 -- "`extract`"
 abbrev pub extractKind : Kind
-extractKind = record { word = 101 ∷ 120 ∷ 116 ∷ 114 ∷ 97 ∷ 99 ∷ 116 ∷ []; count = 0; says = λ n. Extract }
+extractKind = record { word = 101 ∷ 120 ∷ 116 ∷ 114 ∷ 97 ∷ 99 ∷ 116 ∷ []; count = 0; says = λ n. Ask Extract }
 
 -- "`delete label stamp`"
 abbrev pub deleteKind : Kind
 deleteKind = record {
   word = 100 ∷ 101 ∷ 108 ∷ 101 ∷ 116 ∷ 101 ∷ [];
   count = 2;
-  says = λ n. Delete (leafAt n 0) (stampAt n 1);
+  says = λ n. Ask (Delete (leafAt n 0) (stampAt n 1));
 }
 
 abbrev pub kinds : List Kind

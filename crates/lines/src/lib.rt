@@ -1,32 +1,15 @@
-// What a line of the desk says: document 01, "What the desk sees". Stands on `record` and `fields`.
+// What a line of the desk says: document 01, "What the desk sees". Stands on `record`, `request` and `fields`.
 mod says;
 
-use record::Leaf;
-use record::Stamp;
+use request::Request;
 pub use says::read_line;
 
 // What a line says. Leaves and stamps are as they were written: a number out of range is refused by the card.
 pub enum Line {
     Unreadable,
-    Size {
-        h: u64,
-        z: u64,
-        r: u64,
-        t: u64,
-    },
-    Insert {
-        key: u64,
-        value: u64,
-        label: Leaf,
-        first: Leaf,
-        second: Leaf,
-    },
+    Size { h: u64, z: u64, r: u64, t: u64 },
     Min,
-    Extract,
-    Delete {
-        label: Leaf,
-        stamp: Stamp,
-    },
+    Ask(Request),
 }
 
 // The most bytes that a line may have, its end not counted.

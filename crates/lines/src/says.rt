@@ -8,6 +8,7 @@ use crate::Line;
 use fields::SPACE;
 use record::Leaf;
 use record::Stamp;
+use request::Request;
 
 // Each of these reads what follows its word, which ends at `from`.
 fn size(line: &[u8], from: usize) -> Line
@@ -32,13 +33,14 @@ fn insert(line: &[u8], from: usize) -> Line
     if !fields::numbers(line, from, &mut n) {
         return Line::Unreadable;
     }
-    Line::Insert {
+    let request = Request::Insert {
         key: n[0],
         value: n[1],
         label: Leaf(n[2]),
         first: Leaf(n[3]),
         second: Leaf(n[4]),
-    }
+    };
+    Line::Ask(request)
 }
 
 fn delete(line: &[u8], from: usize) -> Line
@@ -48,10 +50,11 @@ fn delete(line: &[u8], from: usize) -> Line
     if !fields::numbers(line, from, &mut n) {
         return Line::Unreadable;
     }
-    Line::Delete {
+    let request = Request::Delete {
         label: Leaf(n[0]),
         stamp: Stamp(n[1]),
-    }
+    };
+    Line::Ask(request)
 }
 
 fn min(line: &[u8], from: usize) -> Line
@@ -69,7 +72,8 @@ fn extract(line: &[u8], from: usize) -> Line
     if from < line.len() {
         return Line::Unreadable;
     }
-    Line::Extract
+    let request = Request::Extract;
+    Line::Ask(request)
 }
 
 // What the bytes of a line, without its end, say.

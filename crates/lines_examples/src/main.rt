@@ -6,11 +6,26 @@ ghost use lib.ListN.{length};
 use libc::STDIN_FILENO;
 use libc::STDOUT_FILENO;
 use lines::Line;
+use request::Request;
 
 fn show(numbers: &[u64]) {
     let mut out = [0u8; 128];
     let n = frames::print_answer(numbers, &mut out);
     io::write_all(STDOUT_FILENO, &out[..n]);
+}
+
+fn ask(request: Request) {
+    match request {
+        Request::Insert {
+            key,
+            value,
+            label,
+            first,
+            second,
+        } => show(&[2, key, value, label.0, first.0, second.0]),
+        Request::Extract => show(&[4]),
+        Request::Delete { label, stamp } => show(&[5, label.0, stamp.0]),
+    }
 }
 
 fn say(line: &[u8]) {
@@ -19,16 +34,8 @@ fn say(line: &[u8]) {
             io::write_all(STDOUT_FILENO, b"?\n");
         }
         Line::Size { h, z, r, t } => show(&[1, h, z, r, t]),
-        Line::Insert {
-            key,
-            value,
-            label,
-            first,
-            second,
-        } => show(&[2, key, value, label.0, first.0, second.0]),
         Line::Min => show(&[3]),
-        Line::Extract => show(&[4]),
-        Line::Delete { label, stamp } => show(&[5, label.0, stamp.0]),
+        Line::Ask(request) => ask(request),
     }
 }
 

@@ -1,2 +1,2 @@
--- What a reader must believe of a request's bucket list.
+-- What a reader must believe of a job's bucket list.
 pub mod Listing

@@ -2,6 +2,5 @@
 pub mod Laid
 pub mod With
 pub mod WithSlice
-pub mod WithTwoAndSlice
+pub mod WithOneAndSlice
 pub mod WithFour
-pub mod WithFiveAndSlice

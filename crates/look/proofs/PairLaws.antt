@@ -18,6 +18,7 @@ use Rattle.sound.specs.Room.{Room}
 use Rattle.sound.specs.Fetched.{fetchedIn, firstFetched, secondFetched}
 use Rattle.damage.specs.Damaged.{pairDamaged}
 use Rattle.damage.proofs.FetchedLaws.{Alike, pair-alike}
+use Rattle.parts.specs.Parts.{partsFor}
 use Rattle.judge.specs.BadParts.{stampOf}
 use Rattle.shown.specs.PairShown.{belowFirst, PairShown}
 use Rattle.look.specs.Look.{PairLookRoom, PairLooks}
@@ -81,11 +82,11 @@ module _ (s : Sizes) (first second : Leaf) (ws w₀ beside₀ : List ℕ) (room 
           beside = λ d l k. below-at s ws (s .h - 1) (records two) (shown .second) d l k;
         }
 
-    pub pair-looks : (t : ℕ) (least : Record) (k m : ℕ) (x : Bool) → k ≡ n → m ≡ n
+    pub pair-looks : (t c : ℕ) (least : Record) (k m : ℕ) (x : Bool) → k ≡ n → m ≡ n
         → x ≡ pairDamaged (s .h) (s .r) (stampOf t) least (fetchedIn (s .z) first (take k ws) one)
         (fetchedIn (s .z) second (take m (drop n ws)) two) (records all)
-        → PairLooks s t root least ws first second w one (record { moved = moved; damaged = x })
-    pair-looks t least k m x e f v =
+        → PairLooks (partsFor s t c least) root ws first second w one (record { moved = moved; damaged = x })
+    pair-looks t c least k m x e f v =
         record {
           way = shown .way;
           siblings = shown .first;

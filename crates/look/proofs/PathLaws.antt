@@ -18,6 +18,7 @@ use Rattle.sound.specs.Room.{Room}
 use Rattle.sound.specs.Fetched.{fetchedIn, pathFetched}
 use Rattle.damage.specs.Damaged.{pathDamaged}
 use Rattle.damage.proofs.FetchedLaws.{Alike, path-alike}
+use Rattle.parts.specs.Parts.{partsFor}
 use Rattle.judge.specs.BadParts.{stampOf}
 use Rattle.shown.specs.PathShown.{PathShown}
 use Rattle.look.specs.Look.{PathLookRoom, PathLooks}
@@ -49,10 +50,10 @@ module _ (s : Sizes) (q : Leaf) (ws w₀ sibs₀ : List ℕ) (room : PathLookRoo
         beside = λ d l m. rw (shown .siblings) (siblings-at (s .z) ws (s .h) 0 (s .h) (d - 1) dummy (omega arith));
       }
 
-  pub path-looks : (t : ℕ) (least : Record) (x : Bool)
+  pub path-looks : (t c : ℕ) (least : Record) (x : Bool)
       → x ≡ pathDamaged (s .h) (s .r) (stampOf t) least (fetchedIn (s .z) q (take k ws) sibs) (records w)
-      → PathLooks s t root least ws q w sibs (record { moved = moved; damaged = x })
-  path-looks t least x v =
+      → PathLooks (partsFor s t c least) root ws q w sibs (record { moved = moved; damaged = x })
+  path-looks t c least x v =
       record {
         shown = shown;
         verdict =

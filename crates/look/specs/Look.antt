@@ -10,11 +10,11 @@ use Rattle.record.specs.Words.{records}
 use Rattle.path.specs.declared.sizes.Sizes.{Sizes}
 use Rattle.path.specs.Sizes.{leavesOf}
 use Rattle.path.specs.Layout.{recordWords}
-use Rattle.gather.specs.Shown.{wayShown}
+use Rattle.parts.specs.declared.Parts.{Parts}
 use Rattle.shown.specs.PathShown.{PathShown}
 use Rattle.shown.specs.PairShown.{belowFirst}
-use Rattle.settle.specs.Left.{pathBad, pairBad}
-use Rattle.settle.specs.Room.{Cut}
+use Rattle.settle.specs.Left.{pathWay, pathBad, pairBad}
+use Rattle.path.specs.Cut.{Cut}
 use Rattle.look.specs.declared.Looked.{Looked}
 
 -- ---- ExtractMin and Delete. What is asked: sizes and leaf in range, words that are not too short, and the scratches of the way
@@ -28,9 +28,9 @@ pub record PathLookRoom (s : Sizes) (q : Leaf) (ws w sibs : List ℕ) : Type 0 w
 
 -- the way and its siblings are in the scratches; the words moved for the siblings, and the verdict
 pub record PathLooks
-    (s : Sizes) (t : ℕ) (root : List Record) (least : Record) (ws : List ℕ) (q : Leaf) (w sibs : List ℕ) (out : Looked) : Type 0 where
-  pub shown : PathShown s root ws w sibs (out .moved)
-  pub verdict : out .damaged ≡ pathBad s t root least ws q
+    (p : Parts) (root : List Record) (ws : List ℕ) (q : Leaf) (w sibs : List ℕ) (out : Looked) : Type 0 where
+  pub shown : PathShown (p .sizes) root ws w sibs (out .moved)
+  pub verdict : out .damaged ≡ pathBad p root ws q
 
 -- ---- Insert. What is asked, with the scratches of the first path's way and of its siblings
 pub record PairLookRoom (s : Sizes) (first second : Leaf) (ws w beside : List ℕ) : Type 0 where
@@ -43,8 +43,8 @@ pub record PairLookRoom (s : Sizes) (first second : Leaf) (ws w beside : List �
 
 -- the first path's way and its siblings are in the scratches; the words moved for both paths' siblings, and the verdict
 pub record PairLooks
-    (s : Sizes) (t : ℕ) (root : List Record) (least : Record) (ws : List ℕ) (first second : Leaf) (w beside : List ℕ) (out : Looked) : Type 0 where
-  pub way : records w ≡ wayShown (s .h) (s .z) (s .r) root ws 0
-  pub siblings : records beside ≡ belowFirst s ws 0
-  pub counted : out .moved ≡ 2 * (s .h - 1) * recordWords
-  pub verdict : out .damaged ≡ pairBad s t root least ws first second
+    (p : Parts) (root : List Record) (ws : List ℕ) (first second : Leaf) (w beside : List ℕ) (out : Looked) : Type 0 where
+  pub way : records w ≡ pathWay (p .sizes) root ws
+  pub siblings : records beside ≡ belowFirst (p .sizes) ws 0
+  pub counted : out .moved ≡ 2 * (p .sizes .h - 1) * recordWords
+  pub verdict : out .damaged ≡ pairBad p root ws first second

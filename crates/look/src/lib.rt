@@ -2,7 +2,7 @@
 // words show is laid in the scratches of the work and looked at; no word is written.
 // Stands on `settle`, `shown`, `damage` and what is below.
 ghost use Rattle.look.specs.Look.{PathLookRoom, PathLooks, PairLookRoom, PairLooks};
-use path::Sizes;
+use parts::Parts;
 use record::Leaf;
 use record::RECORD_WORDS;
 use record::Record;
@@ -24,17 +24,24 @@ pub fn look_path(
     w: &mut [u64],
     sibs: &mut [u64],
     root: [Record; 64],
-    sizes: Sizes,
-    t: u64,
-    least: Record,
-    label: Leaf,
+    parts: Parts,
+    leaf: Leaf,
 ) -> Looked
-    requires { ⌜ PathLookRoom sizes label (now words) (now w) (now sibs) ⌝ }
-    ensures { λ out. ⌜ PathLooks sizes t root least (now (words .entry)) label (now (w .exit)) (now (sibs .exit)) out ⌝ }
+    requires { ⌜ PathLookRoom (parts .sizes) leaf (now words) (now w) (now sibs) ⌝ }
+    ensures { λ out. ⌜ PathLooks parts root (now (words .entry)) leaf (now (w .exit)) (now (sibs .exit)) out ⌝ }
 {
+    let sizes = parts.sizes;
     let moved = shown::show_path(w, sibs, root, words, sizes);
     let buckets = path_words(sizes);
-    let damaged = damage::path_damaged(&words[0..buckets], sibs, w, sizes, label, Stamp(t), least);
+    let damaged = damage::path_damaged(
+        &words[0..buckets],
+        sibs,
+        w,
+        sizes,
+        leaf,
+        Stamp(parts.t),
+        parts.least,
+    );
     Looked {
         moved: moved,
         damaged: damaged,
@@ -48,15 +55,14 @@ pub fn look_pair(
     w: &mut [u64],
     beside: &mut [u64],
     root: [Record; 64],
-    sizes: Sizes,
-    t: u64,
-    least: Record,
+    parts: Parts,
     first: Leaf,
     second: Leaf,
 ) -> Looked
-    requires { ⌜ PairLookRoom sizes first second (now words) (now w) (now beside) ⌝ }
-    ensures { λ out. ⌜ PairLooks sizes t root least (now (words .entry)) first second (now (w .exit)) (now (beside .exit)) out ⌝ }
+    requires { ⌜ PairLookRoom (parts .sizes) first second (now words) (now w) (now beside) ⌝ }
+    ensures { λ out. ⌜ PairLooks parts root (now (words .entry)) first second (now (w .exit)) (now (beside .exit)) out ⌝ }
 {
+    let sizes = parts.sizes;
     let h = sizes.h as usize;
     let both = way_words(sizes, 2 * h);
     let siblings = RECORD_WORDS * h;
@@ -76,8 +82,8 @@ pub fn look_pair(
         sizes,
         first,
         second,
-        Stamp(t),
-        least,
+        Stamp(parts.t),
+        parts.least,
     );
     Looked {
         moved: moved,

@@ -22,10 +22,11 @@ use Rattle.work.specs.PathWork.{pathBuckets, leastAfter}
 use Rattle.pair.specs.PairWork.{seated}
 use Rattle.judge.specs.BadParts.{oddLeast, badParts}
 use Rattle.settle.specs.Left.{removal, insertion, removalDamaged, insertionDamaged}
+use Rattle.checks.specs.Checks.{callRows}
 use Rattle.card.specs.Answers.{orRefused}
 use Rattle.card.specs.BadCard.{badCard}
-use Rattle.card.specs.Calls.{startTable, listOf, beginTable, minTable}
-use Rattle.card.specs.Finish.{leftBy, damagedBy, entryTable, finishedBy}
+use Rattle.card.specs.Calls.{callTable, startTable, listOf}
+use Rattle.card.specs.Finish.{leftBy, damagedBy, finishedBy}
 use Rattle.request.specs.Tables.{insertRows, extractRows, deleteRows, requestRows, waits}
 use Rattle.rack.specs.Answers.{anyOutside}
 use Rattle.copies.specs.Copy.{stored}
@@ -47,7 +48,7 @@ unfolding flatMap every reals bears stampTwice noLater smallerBy smallestBy same
     evictUp evict slotsAt inOrder kids named found removed wholeAt siblingAt siblingsShown slotsShown wayShown
     pathWords sound pathSound siblingsSound kidsShown leastsTrue pathDamaged pairDamaged pathBuckets
     leastAfter seated oddLeast badParts removal insertion removalDamaged insertionDamaged orRefused badCard startTable
-    listOf beginTable minTable leftBy damagedBy entryTable finishedBy insertRows extractRows deleteRows requestRows
+    listOf callTable callRows leftBy damagedBy finishedBy insertRows extractRows deleteRows requestRows
     waits anyOutside stored digits fewest valueFrom allDigits isNumber behind pieces before sameBytes allNumbers saidOf
     saidBy lineSays answerLine rackRefusal finishRefusal treeLeft roundRefusal roundDone roundTree treeWordsUsed sizedTo
     askedFor minOf stepOf given stated

@@ -6,7 +6,7 @@ use Rattle.path.specs.Path.{bucket}
 use Rattle.path.specs.Layout.{recordWords}
 use Rattle.lists.specs.BucketList.{numbers}
 use Rattle.copies.specs.Copy.{bucketPart}
-use Rattle.request.specs.declared.Waiting.{Waiting}
+use Rattle.request.specs.declared.Request.{Request}
 use Rattle.card.specs.Calls.{listOf}
 use Rattle.lines.specs.Says.{lineSays}
 use Rattle.steps.specs.Step.{LineLeft, nothing, stepOf}
@@ -59,7 +59,7 @@ abbrev pub slotsOfBoth : ℕ → ℕ → LineLeft → List ℕ
 slotsOfBoth m n l = slotsOfBucket m l ++ slotsOfBucket n l
 
 -- how many buckets a request asks for whole and how many for least records, and their numbers
-abbrev pub asksFor : Waiting → LineLeft → List ℕ
+abbrev pub asksFor : Request → LineLeft → List ℕ
 asksFor w l =
     length (listOf (l .turn .desk .card) w .whole)
     ∷ length (listOf (l .turn .desk .card) w .least)

@@ -3,7 +3,7 @@ use Prim.Native.Nat.{ℕ}
 use mathlib.Core.List.{List, [], _∷_}
 use Rattle.record.specs.declared.Leaf.{Leaf}
 use Rattle.record.specs.Standing.{dummyKey}
-use Rattle.request.specs.declared.Waiting.the-variants.{Insert, Extract}
+use Rattle.request.specs.declared.Request.the-variants.{Insert, Extract}
 use Rattle.paper.specs.Run.{Row, none, slotsOfBucket, slotsOfBoth, asksFor}
 
 abbrev pub leaf : ℕ → Leaf

@@ -10,15 +10,14 @@ use lib.ListN.{take, drop}
 use Rattle.record.specs.declared.Leaf.{Leaf}
 use Rattle.record.specs.declared.Record.{Record}
 use Rattle.record.specs.Words.{records}
-use Rattle.path.specs.declared.sizes.Sizes.{Sizes}
 use Rattle.gather.specs.Shown.{siblingAt, slotsShown}
 use Rattle.mend.specs.Mended.{pathWords, besideAt}
 use Rattle.mend.proofs.PartLaws.{path-words-append}
-use Rattle.judge.specs.BadParts.{badParts}
+use Rattle.parts.specs.declared.Parts.{Parts}
 use Rattle.pair.specs.PairWork.{firstSiblings, secondSiblings, PairWorked}
 use Rattle.pair.proofs.BesideLaws.{pair-same}
 use Rattle.settle.specs.declared.Settled.{Settled}
-use Rattle.settle.specs.Left.{Left, pathWay, lowerLeft, upperLeft, insertion, pairBad, insertionDamaged}
+use Rattle.settle.specs.Left.{Left, pathWay, lowerLeft, upperLeft, insertion, badLeft, pairBad, insertionDamaged}
 use Rattle.settle.specs.Settled.{unsettled, judged, Prepares}
 use Rattle.settle.proofs.PreparedLaws.{not-prepared, is-prepared}
 use Rattle.look.specs.declared.Looked.{Looked}
@@ -26,76 +25,74 @@ use Rattle.look.specs.Look.{PairLooks}
 use Rattle.look.proofs.PairLaws.{below-at}
 use Rattle.prepare.specs.Prepared.{PairPrepared}
 
-module _ (s : Sizes) (t c : ℕ) (root : List Record) (least : Record) (ws : List ℕ) (first second : Leaf) (new : Record)
-    (w beside : List ℕ) (seen : Looked) (looked : PairLooks s t root least ws first second w beside seen) where
+module _ (p : Parts) (root : List Record) (ws : List ℕ) (first second : Leaf) (new : Record)
+    (w beside : List ℕ) (seen : Looked) (looked : PairLooks p root ws first second w beside seen) where
   abbrev left : Left
-  left = insertion s c root ws first second new
+  left = insertion p root ws first second new
 
   abbrev damaged : Bool
-  damaged = insertionDamaged s t c root least ws first second new
+  damaged = insertionDamaged p root ws first second new
 
-  told : damaged ≡ (seen .damaged || badParts s (t + 1) (left .c) (left .root) (left .least))
+  told : damaged ≡ (seen .damaged || badLeft p left)
   unfolding insertionDamaged
-  told =
-      let u : t + 1 ≡ suc t = omega arith in
-      rw (looked .verdict, u)
+  told = rw (looked .verdict)
 
-  pub fetched-bad : (one two : List ℕ) (out : Settled) → seen .damaged ≡ true → out ≡ unsettled root least c
-      → PairPrepared s t c root least ws first second new one two one two out
+  pub fetched-bad : (one two : List ℕ) (out : Settled) → seen .damaged ≡ true → out ≡ unsettled p root
+      → PairPrepared p root ws first second new one two one two out
   fetched-bad one two out e g =
       let v = sym (looked .verdict) ∙ e in
       record {
-        whole = not-prepared root least c damaged left (2 * (s .h - 1)) (one ++ two) out (told ∙ rw e) g .whole;
+        whole = not-prepared p root damaged left (2 * (p .sizes .h - 1)) (one ++ two) out (told ∙ rw e) g .whole;
         lower = rw v;
         upper = rw v;
       }
 
   -- what the work leaves
-  module _ (high : 1 ≤ s .h) (w₁ one₀ two₀ one two : List ℕ) (x : Record)
-      (work : PairWorked s first second new (besideAt (records beside)) (secondSiblings s ws) (records w) (slotsShown (s .z) ws (s .h) (s .h)) w₁ one two x)
-      (next : List Record) (saved : next ≡ take (s .r) (records w₁) ++ drop (s .r) root) (good : seen .damaged ≡ false) where
+  module _ (high : 1 ≤ p .sizes .h) (w₁ one₀ two₀ one two : List ℕ) (x : Record)
+      (work : PairWorked (p .sizes) first second new (besideAt (records beside)) (secondSiblings (p .sizes) ws) (records w) (slotsShown (p .sizes .z) ws (p .sizes .h) (p .sizes .h)) w₁ one two x)
+      (next : List Record) (saved : next ≡ take (p .sizes .r) (records w₁) ++ drop (p .sizes .r) root) (good : seen .damaged ≡ false) where
     abbrev Same : Type 0
-    Same = PairWorked s first second new (firstSiblings s ws) (secondSiblings s ws) (pathWay s root ws) (slotsShown (s .z) ws (s .h) (s .h)) w₁ one two x
+    Same = PairWorked (p .sizes) first second new (firstSiblings (p .sizes) ws) (secondSiblings (p .sizes) ws) (pathWay (p .sizes) root ws) (slotsShown (p .sizes .z) ws (p .sizes .h) (p .sizes .h)) w₁ one two x
 
     same : Same
     same =
-        let alike : (d : ℕ) → 2 ≤ d → d ≤ s .h → besideAt (records beside) d ≡ firstSiblings s ws d =
-        λ d l m. below-at s ws 0 (records beside) (looked .siblings) d l m ∙ ap (siblingAt (s .z) ws (2 * s .h)) (zero-add (d - 2)) in
-        pair-same s first second new (besideAt (records beside)) (firstSiblings s ws) (secondSiblings s ws) (pathWay s root ws) (slotsShown (s .z) ws (s .h) (s .h)) w₁ one two x high alike (rw (looked .way) at work)
+        let alike : (d : ℕ) → 2 ≤ d → d ≤ p .sizes .h → besideAt (records beside) d ≡ firstSiblings (p .sizes) ws d =
+        λ d l m. below-at (p .sizes) ws 0 (records beside) (looked .siblings) d l m ∙ ap (siblingAt (p .sizes .z) ws (2 * p .sizes .h)) (zero-add (d - 2)) in
+        pair-same (p .sizes) first second new (besideAt (records beside)) (firstSiblings (p .sizes) ws) (secondSiblings (p .sizes) ws) (pathWay (p .sizes) root ws) (slotsShown (p .sizes .z) ws (p .sizes .h) (p .sizes .h)) w₁ one two x high alike (rw (looked .way) at work)
 
     ready : one ++ two ≡ pathWords (left .buckets)
     unfolding insertion
     ready = rw (path-words-append, ← same .firstWords, ← same .secondWords)
 
     pub left-judged : (out : Settled)
-        → out ≡ judged root least c s (t + 1) (record { root = next; least = x; c = c + 1; found = false; moved = seen .moved; damaged = false })
-        → PairPrepared s t c root least ws first second new one₀ two₀ one two out
+        → out ≡ judged p root (record { root = next; least = x; c = p .c + 1; found = false; moved = seen .moved; damaged = false })
+        → PairPrepared p root ws first second new one₀ two₀ one two out
     unfolding insertion
     left-judged out e =
-        let k : c + 1 ≡ suc c = omega arith in
+        let k : p .c + 1 ≡ suc (p .c) = omega arith in
         let v = sym (looked .verdict) ∙ good in
-        let r : next ≡ left .root = saved ∙ ap (λ (l : List Record). take (s .r) l ++ drop (s .r) root) (same .after) in
-        let p : Prepares root least c damaged left (2 * (s .h - 1)) (one ++ two) out =
-        is-prepared root least c damaged left (2 * (s .h - 1)) (one ++ two) out s (t + 1) (seen .damaged) _ told good
+        let r : next ≡ left .root = saved ∙ ap (λ (l : List Record). take (p .sizes .r) l ++ drop (p .sizes .r) root) (same .after) in
+        let a : Prepares p root damaged left (2 * (p .sizes .h - 1)) (one ++ two) out =
+        is-prepared p root damaged left (2 * (p .sizes .h - 1)) (one ++ two) out (seen .damaged) _ told good
         (λ i. record { root = r i; least = same .least i; c = k i; found = false; moved = looked .counted i; damaged = false }) ready e in
-        record { whole = p .whole; lower = rw v (same .firstWords); upper = rw v (same .secondWords) }
+        record { whole = a .whole; lower = rw v (same .firstWords); upper = rw v (same .secondWords) }
 
 -- the two paths' words together, for the stores
-module _ (s : Sizes) (t c : ℕ) (root : List Record) (least : Record) (ws : List ℕ) (first second : Leaf) (new : Record) where
-  fetched-good : insertionDamaged s t c root least ws first second new ≡ false → pairBad s t root least ws first second ≡ false
+module _ (p : Parts) (root : List Record) (ws : List ℕ) (first second : Leaf) (new : Record) where
+  fetched-good : insertionDamaged p root ws first second new ≡ false → pairBad p root ws first second ≡ false
   unfolding insertionDamaged
   fetched-good g = neither _ _ .0 g .0
 
-  pub pair-prepares : (one₀ two₀ one two : List ℕ) (out : Settled) → PairPrepared s t c root least ws first second new one₀ two₀ one two out
-      → Prepares root least c (insertionDamaged s t c root least ws first second new) (insertion s c root ws first second new) (2 * (s .h - 1)) (one ++ two) out
+  pub pair-prepares : (one₀ two₀ one two : List ℕ) (out : Settled) → PairPrepared p root ws first second new one₀ two₀ one two out
+      → Prepares p root (insertionDamaged p root ws first second new) (insertion p root ws first second new) (2 * (p .sizes .h - 1)) (one ++ two) out
   unfolding insertion
-  pair-prepares one₀ two₀ one two out p =
+  pair-prepares one₀ two₀ one two out q =
       record {
-        whole = p .whole;
+        whole = q .whole;
         ready =
             λ g.
-            let v : pairBad s t root least ws first second ≡ false = fetched-good g in
-            let a : one ≡ pathWords (lowerLeft s root ws first new) = rw v at (p .lower) in
-            let b : two ≡ pathWords (upperLeft s root ws first second new) = rw v at (p .upper) in
+            let v : pairBad p root ws first second ≡ false = fetched-good g in
+            let a : one ≡ pathWords (lowerLeft (p .sizes) root ws first new) = rw v at (q .lower) in
+            let b : two ≡ pathWords (upperLeft (p .sizes) root ws first second new) = rw v at (q .upper) in
             rw (path-words-append, ← a, ← b);
       }

@@ -7,7 +7,7 @@ ghost use lib.ListN.{length};
 ghost use Rattle.path.specs.Layout.{bucketWords};
 ghost use Rattle.settle.specs.Room.{InsertionRoom};
 ghost use Rattle.prepare.specs.Prepared.{PairPrepared};
-use path::Sizes;
+use parts::Parts;
 use record::Leaf;
 use record::RECORD_WORDS;
 use record::Record;
@@ -25,17 +25,15 @@ pub fn prepare_insertion(
     one: &mut [u64],
     two: &mut [u64],
     root: [Record; 64],
-    sizes: Sizes,
-    t: u64,
-    c: u64,
-    least: Record,
-    new: Record,
+    parts: Parts,
     first: Leaf,
     second: Leaf,
+    new: Record,
 ) -> Settled
-    requires { ⌜ (InsertionRoom sizes t c first second (now words)) × ((length (now one) ≡ sizes .h * bucketWords (sizes .z)) × (length (now two) ≡ sizes .h * bucketWords (sizes .z))) ⌝ }
-    ensures { λ out. ⌜ PairPrepared sizes t c root least (now (words .entry)) first second new (now (one .entry)) (now (two .entry)) (now (one .exit)) (now (two .exit)) out ⌝ }
+    requires { ⌜ (InsertionRoom parts first second (now words)) × ((length (now one) ≡ parts .sizes .h * bucketWords (parts .sizes .z)) × (length (now two) ≡ parts .sizes .h * bucketWords (parts .sizes .z))) ⌝ }
+    ensures { λ out. ⌜ PairPrepared parts root (now (words .entry)) first second new (now (one .entry)) (now (two .entry)) (now (one .exit)) (now (two .exit)) out ⌝ }
 {
+    let sizes = parts.sizes;
     let h = sizes.h as usize;
     let slots = way_words(sizes, h);
     let siblings = RECORD_WORDS * h;
@@ -43,19 +41,19 @@ pub fn prepare_insertion(
     let mut sibs = [0u64; SIBLINGS_MOST];
     let w = &mut way[0..slots];
     let beside = &mut sibs[0..siblings];
-    let seen = look::look_pair(words, w, beside, root, sizes, t, least, first, second);
+    let seen = look::look_pair(words, w, beside, root, parts, first, second);
     if seen.damaged {
-        return unsettled(root, least, c);
+        return unsettled(root, parts);
     }
     let next_least = pair::work_pair(w, beside, one, two, words, new, sizes, first, second);
     let next_root = gather::save_root(w, root, sizes.r as usize);
     let next = Settled {
         root: next_root,
         least: next_least,
-        c: c + 1,
+        c: parts.c + 1,
         found: false,
         moved: seen.moved,
         damaged: false,
     };
-    judged(root, least, c, sizes, t + 1, next)
+    judged(root, parts, next)
 }

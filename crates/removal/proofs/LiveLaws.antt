@@ -14,12 +14,12 @@ use Rattle.record.specs.declared.Stamp.{Stamp}
 use Rattle.record.specs.declared.Record.{Record}
 use Rattle.record.specs.Standing.{dummy, isDummy}
 use Rattle.record.proofs.StandingLaws.{dummy-is, is-dummy}
-use Rattle.path.specs.declared.sizes.Sizes.{Sizes}
 use Rattle.clearing.specs.Removal.{named, found}
 use Rattle.damage.proofs.Empty.{none-found}
+use Rattle.parts.specs.declared.Parts.{Parts}
 use Rattle.judge.specs.BadParts.{stampOf, oddLeast}
 use Rattle.judge.proofs.FitLaws.{Fit}
-use Rattle.settle.specs.Left.{pathWay, removal, pathBad, removalDamaged}
+use Rattle.settle.specs.Left.{pathWay, pathBad, removal, removalDamaged}
 use Rattle.settle.specs.Room.{RemovalRoom}
 
 -- the dummy has no name
@@ -35,23 +35,23 @@ no-least n next least e = elim (dichotomy (isDummy least)) [
   | inr t ↦ dummy-is least t
 ]
 
-module _ (s : Sizes) (t c : ℕ) (root : List Record) (least : Record) (ws : List ℕ) (label : Leaf) (stamp : Stamp)
-    (fit : Fit s t c root least) (full : s .r ≤ length root) (room : RemovalRoom s t c label ws)
-    (good : removalDamaged s t c root least ws label (named label stamp) ≡ false) where
-  fetched-good : pathBad s t root least ws label ≡ false
+module _ (p : Parts) (root : List Record) (ws : List ℕ) (q label : Leaf) (stamp : Stamp)
+    (fit : Fit p root) (full : p .sizes .r ≤ length root) (room : RemovalRoom p q ws)
+    (good : removalDamaged p root ws q (named label stamp) ≡ false) where
+  fetched-good : pathBad p root ws q ≡ false
   unfolding removalDamaged
   fetched-good = neither _ _ .0 good .0
 
-  none-there : c ≡ 0 → found (named label stamp) (pathWay s root ws) ≡ false
+  none-there : p .c ≡ 0 → found (named label stamp) (pathWay (p .sizes) root ws) ≡ false
   none-there e =
-      let empty = no-least _ _ least (rw e at (fit .odd)) in
+      let empty = no-least _ _ (p .least) (rw e at (fit .odd)) in
       let k = room .fetched in
-      let given : 4 * ((0 + s .h) * (s .z + 1)) ≤ length ws = omega arith in
-      none-found (s .h) (s .z) (s .r) root ws full given (stampOf t) label (fit .slots) (rw empty at fetched-good) (named label stamp) (nameless label stamp)
+      let given : 4 * ((0 + p .sizes .h) * (p .sizes .z + 1)) ≤ length ws = omega arith in
+      none-found (p .sizes .h) (p .sizes .z) (p .sizes .r) root ws full given (stampOf (p .t)) q (fit .slots) (rw empty at fetched-good) (named label stamp) (nameless label stamp)
 
-  pub found-live : removal s c root ws label (named label stamp) .found ≡ true → 1 ≤ c
+  pub found-live : removal p root ws q (named label stamp) .found ≡ true → 1 ≤ p .c
   unfolding removal
-  found-live e = elim (decLe 1 c) [
+  found-live e = elim (decLe 1 (p .c)) [
     | yes l ↦ l
     | no l ↦ absurd (true≢false (sym e ∙ none-there (omega arith)))
   ]

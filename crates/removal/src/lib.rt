@@ -13,7 +13,9 @@ ghost use Rattle.writing.specs.Stored.{StoreRoom};
 ghost use Rattle.lists.specs.BucketList.{wordsMoved, pathList};
 ghost use Rattle.settle.specs.Left.{removal, removalDamaged};
 ghost use Rattle.settle.specs.Settled.{Prepares, Settles, Writes};
-ghost use Rattle.settle.specs.Room.{Cut, RemovalRoom};
+ghost use Rattle.path.specs.Cut.{Cut};
+ghost use Rattle.settle.specs.Room.{RemovalRoom};
+use parts::Parts;
 use path::Sizes;
 use record::Leaf;
 use record::RECORD_WORDS;
@@ -46,16 +48,15 @@ fn prepare_removal(
     words: &[u64],
     path: &mut [u64],
     root: [Record; 64],
-    sizes: Sizes,
-    t: u64,
-    c: u64,
-    least: Record,
+    parts: Parts,
+    leaf: Leaf,
     label: Leaf,
     stamp: Stamp,
 ) -> Settled
-    requires { ⌜ (RemovalRoom sizes t c label (now words)) × (length (now path) ≡ sizes .h * bucketWords (sizes .z)) ⌝ }
-    ensures { λ out. ⌜ Prepares root least c (removalDamaged sizes t c root least (now (words .entry)) label (named label stamp)) (removal sizes c root (now (words .entry)) label (named label stamp)) (sizes .h) (now (path .exit)) out ⌝ }
+    requires { ⌜ (RemovalRoom parts leaf (now words)) × (length (now path) ≡ parts .sizes .h * bucketWords (parts .sizes .z)) ⌝ }
+    ensures { λ out. ⌜ Prepares parts root (removalDamaged parts root (now (words .entry)) leaf (named label stamp)) (removal parts root (now (words .entry)) leaf (named label stamp)) (parts .sizes .h) (now (path .exit)) out ⌝ }
 {
+    let sizes = parts.sizes;
     let h = sizes.h as usize;
     let slots = way_words(sizes, h);
     let siblings = RECORD_WORDS * h;
@@ -63,22 +64,22 @@ fn prepare_removal(
     let mut beside = [0u64; SIBLINGS_MOST];
     let w = &mut way[0..slots];
     let sibs = &mut beside[0..siblings];
-    let seen = look::look_path(words, w, sibs, root, sizes, t, least, label);
+    let seen = look::look_path(words, w, sibs, root, parts, leaf);
     if seen.damaged {
-        return unsettled(root, least, c);
+        return unsettled(root, parts);
     }
-    let out = work::remove_path(w, sibs, path, root, sizes, label, stamp);
+    let out = work::remove_path(w, sibs, path, root, sizes, leaf, label, stamp);
     let next_root = out.root;
     let next_least = out.least;
     let next = Settled {
         root: next_root,
         least: next_least,
-        c: live_after(c, out.found),
+        c: live_after(parts.c, out.found),
         found: out.found,
         moved: seen.moved,
         damaged: false,
     };
-    judged(root, least, c, sizes, t + 1, next)
+    judged(root, parts, next)
 }
 
 // The buckets are written; or nothing, where it is Damaged.
@@ -96,23 +97,22 @@ fn write_removal(words: &mut [u64], path: &[u64], sizes: Sizes, out: Settled) ->
     }
 }
 
-// For crates above: the record of this label and stamp is removed, the path evicted and written; or nothing is changed.
+// For crates above: the record of this label and stamp is removed, the path of the leaf evicted and written; or nothing is changed.
 pub fn settle_removal(
     words: &mut [u64],
     root: [Record; 64],
-    sizes: Sizes,
-    t: u64,
-    c: u64,
-    least: Record,
+    parts: Parts,
+    leaf: Leaf,
     label: Leaf,
     stamp: Stamp,
 ) -> Settled
-    requires { ⌜ RemovalRoom sizes t c label (now words) ⌝ }
-    ensures { λ out. ⌜ Settles root least c (removalDamaged sizes t c root least (now (words .entry)) label (named label stamp)) (removal sizes c root (now (words .entry)) label (named label stamp)) (wordsMoved (sizes .z) (pathList (sizes .h) label)) (now (words .entry)) (now (words .exit)) out ⌝ }
+    requires { ⌜ RemovalRoom parts leaf (now words) ⌝ }
+    ensures { λ out. ⌜ Settles parts root (removalDamaged parts root (now (words .entry)) leaf (named label stamp)) (removal parts root (now (words .entry)) leaf (named label stamp)) (wordsMoved (parts .sizes .z) (pathList (parts .sizes .h) leaf)) (now (words .entry)) (now (words .exit)) out ⌝ }
 {
+    let sizes = parts.sizes;
     let buckets = path_words(sizes);
     let mut prepared = [0u64; PATH_MOST];
     let path = &mut prepared[0..buckets];
-    let out = prepare_removal(words, path, root, sizes, t, c, least, label, stamp);
+    let out = prepare_removal(words, path, root, parts, leaf, label, stamp);
     write_removal(words, path, sizes, out)
 }

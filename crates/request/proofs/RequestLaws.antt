@@ -14,8 +14,8 @@ use Rattle.path.specs.Sizes.{leavesOf}
 use Rattle.refusal.specs.Refusal.{row}
 use Rattle.root.specs.Root.{rootFull}
 use Rattle.refusal.proofs.RefusalLaws.{Rows, none, next, past, stop, Numbered}
-use Rattle.request.specs.declared.Waiting.{Waiting}
-use Rattle.request.specs.declared.Waiting.the-variants.{Nothing, Insert, Extract, Delete}
+use Rattle.request.specs.declared.Request.{Request}
+use Rattle.request.specs.declared.Request.the-variants.{Insert, Extract, Delete}
 use Rattle.request.specs.Tables.{insertRows, extractRows, deleteRows, requestRows}
 
 module _ (s : Sizes) (t c : ℕ) (root : List Record) where
@@ -33,9 +33,8 @@ module _ (s : Sizes) (t c : ℕ) (root : List Record) where
       | inl f ↦ next 9 (low 9 (omega arith) (omega arith)) (root-rows (eqb-false _ _ f))
     ]
 
-    pub request-rows : (w : Waiting) → Rows P (requestRows s t c root w)
+    pub request-rows : (r : Request) → Rows P (requestRows s t c root r)
     unfolding requestRows insertRows extractRows deleteRows
-    request-rows Nothing = none
     request-rows (Insert key value label first second) =
         next 4 (low 4 (omega arith) (omega arith)) (next 5 (low 5 (omega arith) (omega arith)) (next 6 (low 6 (omega arith) (omega arith)) full-rows))
     request-rows Extract = next 4 (low 4 (omega arith) (omega arith)) (next 8 (low 8 (omega arith) (omega arith)) none)
@@ -43,5 +42,5 @@ module _ (s : Sizes) (t c : ℕ) (root : List Record) where
         next 4 (low 4 (omega arith) (omega arith)) (next 6 (low 6 (omega arith) (omega arith)) (next 7 (low 7 (omega arith) (omega arith)) none))
 
   -- each of them tells a refusal from none
-  pub request-numbered : (w : Waiting) → Numbered (requestRows s t c root w)
+  pub request-numbered : (r : Request) → Numbered (requestRows s t c root r)
   request-numbered = request-rows (λ n. n ≡ 0 → ⊥) (λ n l m e. omega arith) (λ f e z. omega arith)

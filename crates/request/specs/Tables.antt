@@ -13,7 +13,9 @@ use Rattle.path.specs.Sizes.{leavesOf}
 use Rattle.root.specs.Root.{rootFull}
 use Rattle.refusal.specs.Refusal.{Refusal, row}
 use Rattle.request.specs.declared.Waiting.{Waiting}
-use Rattle.request.specs.declared.Waiting.the-variants.{Nothing, Insert, Extract, Delete}
+use Rattle.request.specs.declared.Waiting.the-variants.{Nothing, For}
+use Rattle.request.specs.declared.Request.{Request}
+use Rattle.request.specs.declared.Request.the-variants.{Insert, Extract, Delete}
 
 -- "label N or more"
 abbrev pub badLabel : ℕ → Leaf → Bool
@@ -44,15 +46,17 @@ module _ (s : Sizes) (t c : ℕ) where
       ∷ row 7 (not (known (record { 0 = t }) stamp))
       ∷ []
 
-  unfoldable pub requestRows : List Record → Waiting → List Refusal
-  requestRows root Nothing = []
+  unfoldable pub requestRows : List Record → Request → List Refusal
   requestRows root (Insert key value label first second) = insertRows root key label first second
   requestRows root Extract = extractRows
   requestRows root (Delete label stamp) = deleteRows label stamp
 
+  -- of what waits, as if it were begun
+  abbrev pub waitingRows : List Record → Waiting → List Refusal
+  waitingRows root Nothing = []
+  waitingRows root (For request) = requestRows root request
+
 -- whether a request waits
 unfoldable pub waits : Waiting → Bool
 waits Nothing = false
-waits (Insert key value label first second) = true
-waits Extract = true
-waits (Delete label stamp) = true
+waits (For request) = true

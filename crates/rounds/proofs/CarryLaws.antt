@@ -10,12 +10,11 @@ use Rattle.rack.specs.Answers.{answerNumber, copyTable}
 use Rattle.copies.specs.Copy.{listed, stored}
 use Rattle.rack.specs.Promises.{Fetches, Stores}
 use Rattle.refusal.specs.Refusal.{firstGiven}
-use Rattle.settle.specs.Left.{wordsLeft}
 use Rattle.card.specs.declared.Card.{Card}
 use Rattle.card.specs.declared.Done.{Done}
 use Rattle.answers.specs.Answers.{numberOf}
 use Rattle.card.specs.Answers.{refused, orRefused}
-use Rattle.card.specs.Finish.{leftBy, finishTable, finished, Finishes}
+use Rattle.card.specs.Finish.{finishTable, finished, wordsFor, Finishes}
 use Rattle.rounds.specs.Round.{wordPlaces, rackRefusal, shown, finishRefusal, carryRefusal, treeLeft, Carries}
 use Rattle.refusal.proofs.RefusalLaws.{or-first, or-second}
 use Rattle.rounds.proofs.RoundLaws.{round-refused, round-done}
@@ -66,7 +65,7 @@ module _ (k b : Card) (list : List ℕ) (n : Counts) (tree : List ℕ) where
           unfolding orRefused
           whole = rw none at (finish-says .call .whole)
 
-          left : later ≡ wordsLeft (leftBy b (b .waiting) (shown b list n l tree)) (shown b list n l tree)
+          left : later ≡ wordsFor b (b .waiting) (shown b list n l tree)
           left = rw none at (finish-says .words)
 
           stores-none : firstGiven (copyTable (b .sizes .h) (b .sizes .z) (length tree) list (n .whole) (n .least) (length later)) ≡ 0

@@ -10,7 +10,8 @@ use Rattle.refusal.specs.Refusal.{orElse, afterwards, firstGiven}
 use Rattle.copies.specs.Copy.{listed}
 use Rattle.rack.proofs.ListedLaws.{listed-laid}
 use Rattle.card.specs.declared.Card.{Card}
-use Rattle.request.specs.declared.Waiting.{Waiting}
+use Rattle.request.specs.declared.Request.{Request}
+use Rattle.request.specs.declared.Waiting.the-variants.{For}
 use Rattle.card.specs.declared.Done.{Done}
 use Rattle.answers.specs.Answers.{numberOf}
 use Rattle.card.specs.Answers.{refused, orRefused, Answered}
@@ -50,39 +51,39 @@ module _ (k : Card) (before : ℕ) (waiting : Card) (list : List ℕ) (n : Count
       (p .call .whole ∙ left-before refusal _ _ h, p .lent ∙ left-before refusal (treeLeft waiting list n l tree) tree h)
 
 -- ---- a round of a request that begin was given
-module _ (k : Card) (w : Waiting) (tree : List ℕ) where
+module _ (k : Card) (r : Request) (tree : List ℕ) where
   abbrev begins : ℕ
-  begins = firstGiven (beginTable k w (length listPlaces))
+  begins = firstGiven (beginTable k r (length listPlaces))
 
-  module _ (list : List ℕ) (b : Done) (after : List ℕ) (d : Done) (p : Begins k w listPlaces list b)
+  module _ (list : List ℕ) (b : Done) (after : List ℕ) (d : Done) (p : Begins k r listPlaces list b)
       (q : Carries k (numberOf (b .answer)) (b .card) list (countsIn (b .answer)) (listed list (countsIn (b .answer) .whole) (countsIn (b .answer) .least)) tree after d) where
-    begin-refuses : (begins ≡ 0 → ⊥) → Plays k w tree after d
+    begin-refuses : (begins ≡ 0 → ⊥) → Plays k r tree after d
     begin-refuses h =
         let same : numberOf (b .answer) ≡ begins = p .call .numbered in
         let some : numberOf (b .answer) ≡ 0 → ⊥ = λ z. h (sym same ∙ z) in
         let first = or-first (numberOf (b .answer)) (carryRefusal (b .card) list (countsIn (b .answer)) (listed list (countsIn (b .answer) .whole) (countsIn (b .answer) .least)) tree) some in
         let left = refused-round k _ _ _ _ _ tree after d (λ z. some (sym first ∙ z)) q in
-        subst (λ (t : List ℕ). Plays k w tree t d) (sym (left .1))
+        subst (λ (t : List ℕ). Plays k r tree t d) (sym (left .1))
         (round-refused k begins _ _ _ _ tree begins d (or-first begins _ h) h (left .0 ∙ ap (refused k) (first ∙ same)))
 
-    begin-passes : begins ≡ 0 → Plays k w tree after d
+    begin-passes : begins ≡ 0 → Plays k r tree after d
     unfolding orRefused
     begin-passes e =
-        let own : b ≡ begun k w = rw e at (p .call .whole) in
-        let places : list ≡ laid (listOf k w) listPlaces = rw e at (p .places) in
+        let own : b ≡ begun k r = rw e at (p .call .whole) in
+        let places : list ≡ laid (listOf k r) listPlaces = rw e at (p .places) in
         let at-begun = subst (λ (x : Done). Carries k (numberOf (x .answer)) (x .card) list (countsIn (x .answer)) (listed list (countsIn (x .answer) .whole) (countsIn (x .answer) .least)) tree after d) own q in
-        let at-list = subst (λ (x : List ℕ). Carries k 0 (withWaiting k w) x (counts (listOf k w)) (listed x (counts (listOf k w) .whole) (counts (listOf k w) .least)) tree after d) places at-begun in
-        let named = subst (λ (x : BucketList). Carries k 0 (withWaiting k w) (laid (listOf k w) listPlaces) (counts (listOf k w)) x tree after d) (listed-laid (listOf k w) listPlaces) at-list in
-        subst (λ (x : ℕ). Carries k x (withWaiting k w) (laid (listOf k w) listPlaces) (counts (listOf k w)) (listOf k w) tree after d) (sym e) named
+        let at-list = subst (λ (x : List ℕ). Carries k 0 (withWaiting k (For r)) x (counts (listOf k r)) (listed x (counts (listOf k r) .whole) (counts (listOf k r) .least)) tree after d) places at-begun in
+        let named = subst (λ (x : BucketList). Carries k 0 (withWaiting k (For r)) (laid (listOf k r) listPlaces) (counts (listOf k r)) x tree after d) (listed-laid (listOf k r) listPlaces) at-list in
+        subst (λ (x : ℕ). Carries k x (withWaiting k (For r)) (laid (listOf k r) listPlaces) (counts (listOf k r)) (listOf k r) tree after d) (sym e) named
 
-    either : (m : ℕ) → begins ≡ m → Plays k w tree after d
+    either : (m : ℕ) → begins ≡ m → Plays k r tree after d
     either zero e = begin-passes e
     either (suc m) e = begin-refuses (λ z. let n : suc m ≡ 0 = sym e ∙ z in omega arith)
 
-    pub plays : Plays k w tree after d
+    pub plays : Plays k r tree after d
     plays = either begins refl
 
   -- a round comes to what its equations say
-  pub comes-to : (after : List ℕ) (d : Done) → Plays k w tree after d → (d ≡ roundDone k w tree) × (after ≡ roundTree k w tree)
+  pub comes-to : (after : List ℕ) (d : Done) → Plays k r tree after d → (d ≡ roundDone k r tree) × (after ≡ roundTree k r tree)
   unfolding roundRefusal roundDone roundTree
   comes-to after d p = (p .call .whole, p .lent)

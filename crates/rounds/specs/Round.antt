@@ -9,15 +9,15 @@ use Rattle.lists.specs.BucketList.{BucketList, counts, laid}
 use Rattle.refusal.specs.Refusal.{firstGiven, orElse, afterwards}
 use Rattle.rack.specs.Answers.{copyRefusal}
 use Rattle.copies.specs.Copy.{fetched, stored}
-use Rattle.settle.specs.Left.{wordsLeft}
 use Rattle.card.specs.declared.Card.{Card}
-use Rattle.request.specs.declared.Waiting.{Waiting}
+use Rattle.request.specs.declared.Request.{Request}
+use Rattle.request.specs.declared.Waiting.the-variants.{For}
 use Rattle.answers.specs.declared.Answer.{Answer}
 use Rattle.answers.specs.declared.Answer.the-variants.{Started, Listed, Least, Withdrawn, Inserted, Extracted, Deleted, Refused}
 use Rattle.card.specs.declared.Done.{Done}
 use Rattle.card.specs.Answers.{orRefused, Answered}
 use Rattle.card.specs.Calls.{withWaiting, listOf, beginTable}
-use Rattle.card.specs.Finish.{leftBy, finishTable, finished}
+use Rattle.card.specs.Finish.{finishTable, finished, wordsFor}
 
 -- what is lent for the list, and for the fetched words
 abbrev pub listPlaces : List ℕ
@@ -55,7 +55,7 @@ module _ (begun : Card) (list : List ℕ) (n : Counts) (l : BucketList) (tree : 
 
   -- "The rack stores the whole buckets back" out of the words that the finish leaves
   unfoldable pub treeLeft : List ℕ
-  treeLeft = stored (begun .sizes .z) (l .whole) (wordsLeft (leftBy begun (begun .waiting) shown) shown) tree
+  treeLeft = stored (begun .sizes .z) (l .whole) (wordsFor begun (begun .waiting) shown) tree
 
 -- Carried to its end, where nothing refused before; or, with the first refusal, `k` and the tree as they were.
 pub record Carries (k : Card) (before : ℕ) (begun : Card) (list : List ℕ) (n : Counts) (l : BucketList) (tree after : List ℕ) (answer : Done) : Type 0 where
@@ -63,23 +63,23 @@ pub record Carries (k : Card) (before : ℕ) (begun : Card) (list : List ℕ) (n
       Answered k (orElse before (carryRefusal begun list n l tree)) (finished begun (shown begun list n l tree)) answer
   pub lent : after ≡ afterwards (orElse before (carryRefusal begun list n l tree)) (treeLeft begun list n l tree) tree
 
--- the promise of a round: the request `w` on this card and this tree
-abbrev pub Plays : Card → Waiting → List ℕ → List ℕ → Done → Type 0
-Plays k w tree after answer =
-    Carries k (firstGiven (beginTable k w (length listPlaces))) (withWaiting k w) (laid (listOf k w) listPlaces) (counts (listOf k w)) (listOf k w) tree after answer
+-- the promise of a round: the request `r` on this card and this tree
+abbrev pub Plays : Card → Request → List ℕ → List ℕ → Done → Type 0
+Plays k r tree after answer =
+    Carries k (firstGiven (beginTable k r (length listPlaces))) (withWaiting k (For r)) (laid (listOf k r) listPlaces) (counts (listOf k r)) (listOf k r) tree after answer
 
 -- and what such a round comes to, as an equation: its refusal, its answer with the card, and the tree
-module _ (k : Card) (w : Waiting) (tree : List ℕ) where
+module _ (k : Card) (r : Request) (tree : List ℕ) where
   unfoldable pub roundRefusal : ℕ
   roundRefusal =
-      orElse (firstGiven (beginTable k w (length listPlaces)))
-      (carryRefusal (withWaiting k w) (laid (listOf k w) listPlaces) (counts (listOf k w)) (listOf k w) tree)
+      orElse (firstGiven (beginTable k r (length listPlaces)))
+      (carryRefusal (withWaiting k (For r)) (laid (listOf k r) listPlaces) (counts (listOf k r)) (listOf k r) tree)
 
   unfoldable pub roundDone : Done
   roundDone =
-      orRefused k roundRefusal (finished (withWaiting k w) (fetched (k .sizes .z) tree (listOf k w) wordPlaces))
+      orRefused k roundRefusal (finished (withWaiting k (For r)) (fetched (k .sizes .z) tree (listOf k r) wordPlaces))
 
   unfoldable pub roundTree : List ℕ
   roundTree =
       afterwards roundRefusal
-      (treeLeft (withWaiting k w) (laid (listOf k w) listPlaces) (counts (listOf k w)) (listOf k w) tree) tree
+      (treeLeft (withWaiting k (For r)) (laid (listOf k r) listPlaces) (counts (listOf k r)) (listOf k r) tree) tree

@@ -4,7 +4,6 @@
 // Whatever card and tree are given, a request is played to its end or refused. The first step that refuses decides, and
 // then card and tree are as before: the card that was begun is dropped, so no request is left waiting. Stands on `lists`, `request`,
 // `answers`, `card`, `copies` and `rack`.
-ghost use Rattle.request.specs.declared.Waiting.{Waiting};
 ghost use Rattle.rounds.specs.Round.{Plays};
 
 mod answer;
@@ -12,40 +11,15 @@ mod carry;
 
 use card::Card;
 use card::Done;
-use record::Leaf;
-use record::Stamp;
+use request::Request;
 
 // The places of a bucket list: the longest, an Insert's at height 16, has 62 numbers.
 pub(crate) const LIST_PLACES: usize = 64;
 
-pub fn play_insert(
-    card: Card,
-    key: u64,
-    value: u64,
-    label: Leaf,
-    first: Leaf,
-    second: Leaf,
-    tree: &mut [u64],
-) -> Done
-    ensures { λ d. ⌜ Plays card (Waiting.Insert key value label first second) (now (tree .entry)) (now (tree .exit)) d ⌝ }
+pub fn play(card: Card, request: Request, tree: &mut [u64]) -> Done
+    ensures { λ d. ⌜ Plays card request (now (tree .entry)) (now (tree .exit)) d ⌝ }
 {
     let mut list = [0u64; LIST_PLACES];
-    let begun = card.begin_insert(key, value, label, first, second, &mut list);
-    carry::go_on(card, begun, &list, tree)
-}
-
-pub fn play_extract(card: Card, tree: &mut [u64]) -> Done
-    ensures { λ d. ⌜ Plays card Waiting.Extract (now (tree .entry)) (now (tree .exit)) d ⌝ }
-{
-    let mut list = [0u64; LIST_PLACES];
-    let begun = card.begin_extract(&mut list);
-    carry::go_on(card, begun, &list, tree)
-}
-
-pub fn play_delete(card: Card, label: Leaf, stamp: Stamp, tree: &mut [u64]) -> Done
-    ensures { λ d. ⌜ Plays card (Waiting.Delete label stamp) (now (tree .entry)) (now (tree .exit)) d ⌝ }
-{
-    let mut list = [0u64; LIST_PLACES];
-    let begun = card.begin_delete(label, stamp, &mut list);
+    let begun = card.begin(request, &mut list);
     carry::go_on(card, begun, &list, tree)
 }

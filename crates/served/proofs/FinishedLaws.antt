@@ -2,90 +2,67 @@
 -- that comes out is ready, with the tree into which the rack has stored the whole buckets and the events that are then
 -- live. Assumes nothing.
 use Prim.Native.Nat.{ℕ, _≤_}
-use mathlib.Core.Bool.{true, false, true≢false}
+use mathlib.Core.Bool.{false}
 use mathlib.Core.List.{List}
-use mathlib.Core.Path.{_≡_, refl, sym}
+use mathlib.Core.Path.{_≡_, ap, _∙_}
 use lib.ListN.{length}
 use Rattle.record.specs.declared.Record.{Record}
-use Rattle.record.specs.Standing.{dummyKey, same}
-use Rattle.record.proofs.StandingLaws.{same-refl}
+use Rattle.record.specs.Standing.{dummyKey}
 use Rattle.refusal.specs.Refusal.{firstGiven}
-use Rattle.settle.specs.Left.{Left, wordsLeft}
+use Rattle.settle.specs.Left.{wordsLeft}
 use Rattle.copies.specs.Copy.{fetched, stored}
 use Rattle.card.specs.declared.Card.{Card}
+use Rattle.request.specs.declared.Request.{Request}
+use Rattle.request.specs.declared.Request.the-variants.{Insert, Extract, Delete}
 use Rattle.request.specs.declared.Waiting.{Waiting}
-use Rattle.request.specs.declared.Waiting.the-variants.{Nothing, Insert, Extract, Delete}
-use Rattle.request.specs.Tables.{waits}
+use Rattle.request.specs.declared.Waiting.the-variants.{For}
 use Rattle.card.specs.declared.Done.{Done}
 use Rattle.card.specs.Answers.{orRefused}
 use Rattle.card.specs.Calls.{listOf}
-use Rattle.card.specs.Finish.{leftBy, damagedBy, cardLeft, wordsNeeded, finishTable, finishedBy, finished, Finishes}
+use Rattle.card.specs.Finish.{leftBy, damagedBy, cardLeft, wordsNeeded, finishTable, finishedBy, finishedFor, wordsFor, Finishes}
 use Rattle.card.proofs.FinishLaws.{words-enough}
 use Rattle.card.proofs.FinishedLaws.{gives-none}
 use Rattle.served.specs.Ready.{Ready}
 use Rattle.served.specs.LiveAfter.{liveAfter}
 use Rattle.served.proofs.CallLaws.{ready-card, ready-least}
-use Rattle.served.proofs.FinishLaws.{least-picks, extract-undamaged, extract-ready, delete-undamaged, delete-ready, insert-undamaged, insert-ready}
+use Rattle.served.proofs.FinishLaws.{extract-undamaged, extract-ready, delete-undamaged, delete-ready, insert-undamaged, insert-ready}
 
 -- an Insert's key is a 64-bit number
-abbrev pub WordKey : Waiting → Type 0
-WordKey Nothing = Unit {0}
+abbrev pub WordKey : Request → Type 0
 WordKey (Insert key value label first second) = key ≤ dummyKey
 WordKey Extract = Unit {0}
 WordKey (Delete label stamp) = Unit {0}
 
--- the card that a finish hands back is the one that the work left
-pub finished-card : (k : Card) (w : Waiting) (l : Left) → waits w ≡ true → finishedBy k w l .card ≡ cardLeft k l
-unfolding finishedBy waits
-finished-card k Nothing l e = absurd (true≢false (sym e))
-finished-card k (Insert key value label first second) l e = refl
-finished-card k Extract l e = refl
-finished-card k (Delete label stamp) l e = refl
-
 module _ (k : Card) (tree words : List ℕ) (live : List Record) (r : Ready k tree live) where
-  abbrev shown : Waiting → List ℕ
-  shown w = fetched (k .sizes .z) tree (listOf k w) words
+  abbrev shown : Request → List ℕ
+  shown q = fetched (k .sizes .z) tree (listOf k q) words
 
   -- 12 is not given
-  undamaged : (w : Waiting) → k .waiting ≡ w → WordKey w → damagedBy k w (shown w) ≡ false
+  pub finish-undamaged : (q : Request) → k .waiting ≡ For q → WordKey q → damagedBy k q (shown q) ≡ false
   unfolding damagedBy listOf
-  undamaged Nothing e word = refl
-  undamaged (Insert key value label first second) e word = insert-undamaged k tree words live r key value label first second e word
-  undamaged Extract e word = extract-undamaged k tree words live r e (same (k .least)) (same-refl (k .least)) (least-picks k tree words live r e)
-  undamaged (Delete label stamp) e word = delete-undamaged k tree words live r label stamp e
+  finish-undamaged (Insert key value label first second) e word = insert-undamaged k tree words live r key value label first second e word
+  finish-undamaged Extract e word = extract-undamaged k tree words live r e
+  finish-undamaged (Delete label stamp) e word = delete-undamaged k tree words live r label stamp e
 
   -- ready again, with the events that are then live
-  ready-again : (w : Waiting) → k .waiting ≡ w → WordKey w → waits w ≡ true
-      → Ready (cardLeft k (leftBy k w (shown w))) (stored (k .sizes .z) (listOf k w .whole) (wordsLeft (leftBy k w (shown w)) (shown w)) tree)
-      (liveAfter (k .t) live w)
-  unfolding leftBy listOf liveAfter waits
-  ready-again Nothing e word some = absurd (true≢false (sym some))
-  ready-again (Insert key value label first second) e word some = insert-ready k tree words live r key value label first second e word
-  ready-again Extract e word some =
-      rw (← ready-least k tree live r)
-      (extract-ready k tree words live r e (same (k .least)) (same-refl (k .least)) (least-picks k tree words live r e))
-  ready-again (Delete label stamp) e word some = delete-ready k tree words live r label stamp e
-
-  pub finish-undamaged : WordKey (k .waiting) → damagedBy k (k .waiting) (shown (k .waiting)) ≡ false
-  finish-undamaged word = undamaged (k .waiting) refl word
-
-  pub finish-ready : WordKey (k .waiting) → waits (k .waiting) ≡ true
-      → Ready (cardLeft k (leftBy k (k .waiting) (shown (k .waiting))))
-      (stored (k .sizes .z) (listOf k (k .waiting) .whole) (wordsLeft (leftBy k (k .waiting) (shown (k .waiting))) (shown (k .waiting))) tree)
-      (liveAfter (k .t) live (k .waiting))
-  finish-ready word some = ready-again (k .waiting) refl word some
+  pub finish-ready : (q : Request) → k .waiting ≡ For q → WordKey q
+      → Ready (cardLeft k (leftBy k q (shown q))) (stored (k .sizes .z) (listOf k q .whole) (wordsLeft (leftBy k q (shown q)) (shown q)) tree)
+      (liveAfter (k .t) live q)
+  unfolding leftBy listOf liveAfter
+  finish-ready (Insert key value label first second) e word = insert-ready k tree words live r key value label first second e word
+  finish-ready Extract e word = rw (← ready-least k tree live r) (extract-ready k tree words live r e)
+  finish-ready (Delete label stamp) e word = delete-ready k tree words live r label stamp e
 
   -- nothing is refused: neither 13, nor 3, nor 12, nor 11 where the words are those of the list or more
-  pub finish-passes : WordKey (k .waiting) → waits (k .waiting) ≡ true → wordsNeeded k ≤ length (shown (k .waiting))
-      → firstGiven (finishTable k (shown (k .waiting))) ≡ 0
-  finish-passes word some room =
-      gives-none k _ (words-enough k _ (ready-card k tree live r) some room) (finish-undamaged word)
+  module _ (q : Request) (busy : k .waiting ≡ For q) (word : WordKey q) (room : wordsNeeded k q ≤ length (shown q)) where
+    pub finish-passes : firstGiven (finishTable k (shown q)) ≡ 0
+    finish-passes = gives-none k _ q busy (words-enough k _ q (ready-card k tree live r) busy room) (finish-undamaged q busy word)
 
-  -- so finish hands back what it worked out, and leaves it in the words
-  pub finish-done : WordKey (k .waiting) → waits (k .waiting) ≡ true → wordsNeeded k ≤ length (shown (k .waiting)) → (after : List ℕ) (answer : Done)
-      → Finishes k (shown (k .waiting)) after answer
-      → (answer ≡ finished k (shown (k .waiting))) × (after ≡ wordsLeft (leftBy k (k .waiting) (shown (k .waiting))) (shown (k .waiting)))
-  unfolding orRefused
-  finish-done word some room after answer f =
-      let passes = finish-passes word some room in
-      (rw passes at (f .call .whole), rw passes at (f .words))
+    -- so finish hands back what it worked out, and leaves it in the words
+    pub finish-done : (after : List ℕ) (answer : Done) → Finishes k (shown q) after answer
+        → (answer ≡ finishedBy k q (leftBy k q (shown q))) × (after ≡ wordsLeft (leftBy k q (shown q)) (shown q))
+    unfolding orRefused
+    finish-done after answer f = (
+      (rw finish-passes at (f .call .whole)) ∙ ap (λ (w : Waiting). finishedFor k w (shown q)) busy,
+      (rw finish-passes at (f .words)) ∙ ap (λ (w : Waiting). wordsFor k w (shown q)) busy,
+    )

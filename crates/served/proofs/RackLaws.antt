@@ -21,14 +21,16 @@ use Rattle.copies.specs.Copy.{fetchedWords, fetched, stored}
 use Rattle.rack.specs.Promises.{Fetches, Stores}
 use Rattle.rack.proofs.ListedLaws.{listed-laid, laid-passes, path-list-inside, pair-list-inside}
 use Rattle.card.specs.declared.Card.{Card}
-use Rattle.request.specs.declared.Waiting.{Waiting}
-use Rattle.request.specs.declared.Waiting.the-variants.{Nothing, Insert, Extract, Delete}
-use Rattle.card.specs.Tables.{requestTable}
+use Rattle.request.specs.declared.Request.{Request}
+use Rattle.request.specs.declared.Request.the-variants.{Insert, Extract, Delete}
+use Rattle.request.specs.declared.Waiting.the-variants.{For}
+use Rattle.card.specs.Tables.{partsOf, requestTable}
 use Rattle.card.specs.Calls.{listOf}
 use Rattle.card.proofs.BeginLaws.{insertable, extractable, deletable}
 use Rattle.refusal.specs.Refusal.{firstGiven}
 use Rattle.good.proofs.FoundLaws.{least-inside}
 use Rattle.served.specs.Ready.{Ready}
+use Rattle.served.proofs.CallLaws.{waiting-taken}
 
 -- ---- any list with no number outside
 module _ (h z : ℕ) (tree words : List ℕ) (l : BucketList) (places : List ℕ) (sizes : treeIn h z ≡ true) (whole : length tree ≡ treeWords h z)
@@ -48,10 +50,6 @@ module _ (h z : ℕ) (tree words : List ℕ) (l : BucketList) (places : List ℕ
 
 -- ---- the list of the request that waits
 module _ (k : Card) (tree : List ℕ) (live : List Record) (r : Ready k tree live) where
-  nothing-inside : anyOutside (k .sizes .h) (numbers (listOf k Nothing)) ≡ false
-  unfolding listOf anyOutside
-  nothing-inside = refl
-
   insert-inside : (key value : ℕ) (label first second : Leaf) → firstGiven (requestTable k (Insert key value label first second)) ≡ 0
       → anyOutside (k .sizes .h) (numbers (listOf k (Insert key value label first second))) ≡ false
   unfolding listOf
@@ -65,23 +63,22 @@ module _ (k : Card) (tree : List ℕ) (live : List Record) (r : Ready k tree liv
   extract-inside e =
       let some = extractable k e .some in
       path-list-inside (k .sizes .h) (k .least .label)
-      (least-inside (k .sizes) (k .t) (k .c) (k .root) (k .least) tree [] live (r .heap) (omega arith))
+      (least-inside (partsOf k) (k .root) tree [] live (r .heap) (omega arith))
 
   delete-inside : (label : Leaf) (stamp : Stamp) → firstGiven (requestTable k (Delete label stamp)) ≡ 0
       → anyOutside (k .sizes .h) (numbers (listOf k (Delete label stamp))) ≡ false
   unfolding listOf
   delete-inside label stamp e = path-list-inside (k .sizes .h) label (deletable k label stamp e .label)
 
-  pub list-inside : (w : Waiting) → firstGiven (requestTable k w) ≡ 0 → anyOutside (k .sizes .h) (numbers (listOf k w)) ≡ false
-  list-inside Nothing e = nothing-inside
+  pub list-inside : (q : Request) → firstGiven (requestTable k q) ≡ 0 → anyOutside (k .sizes .h) (numbers (listOf k q)) ≡ false
   list-inside (Insert key value label first second) e = insert-inside key value label first second e
   list-inside Extract e = extract-inside e
   list-inside (Delete label stamp) e = delete-inside label stamp e
 
   -- ---- the calls, with the list that begin laid in any places
-  module _ (places words : List ℕ) where
+  module _ (q : Request) (busy : k .waiting ≡ For q) (places words : List ℕ) where
     abbrev l : BucketList
-    l = listOf k (k .waiting)
+    l = listOf k q
 
     module _ (room : wordsFor (k .sizes .z) (counts l .whole) (counts l .least) ≤ length words) (answer : Answer) (after : List ℕ) where
       pub ready-fetched :
@@ -89,14 +86,14 @@ module _ (k : Card) (tree : List ℕ) (live : List Record) (r : Ready k tree liv
           → (answerNumber answer ≡ 0) × (after ≡ fetched (k .sizes .z) tree l words)
       ready-fetched =
           list-fetched (k .sizes .h) (k .sizes .z) tree words l places (tree-range (k .sizes) (r .heap .sizes)) (r .heap .words)
-          (list-inside (k .waiting) (r .waiting)) room answer after
+          (list-inside q (waiting-taken k tree live q r busy)) room answer after
 
       pub ready-stored :
           Stores (k .sizes .h) (k .sizes .z) tree (laid l places) (counts l .whole) (counts l .least) words answer after
           → (answerNumber answer ≡ 0) × (after ≡ stored (k .sizes .z) (l .whole) words tree)
       ready-stored =
           list-stored (k .sizes .h) (k .sizes .z) tree words l places (tree-range (k .sizes) (r .heap .sizes)) (r .heap .words)
-          (list-inside (k .waiting) (r .waiting)) room answer after
+          (list-inside q (waiting-taken k tree live q r busy)) room answer after
 
 -- words once fetched into, and words once finished, are no fewer
 over-length : (xs ws : List ℕ) → length ws ≤ length (xs ++ drop (length xs) ws)

@@ -8,13 +8,12 @@ use Rattle.record.specs.Standing.{recordOf}
 use Rattle.record.specs.Order.{smallest}
 use Rattle.clearing.specs.Removal.{named, found}
 use Rattle.judge.specs.BadParts.{stampOf}
-use Rattle.request.specs.declared.Waiting.{Waiting}
-use Rattle.request.specs.declared.Waiting.the-variants.{Nothing, Insert, Extract, Delete}
+use Rattle.request.specs.declared.Request.{Request}
+use Rattle.request.specs.declared.Request.the-variants.{Insert, Extract, Delete}
 use Rattle.good.specs.Live.{without}
 
 -- t is the count of finished requests, the stamp of the next insertion
-unfoldable pub liveAfter : ℕ → List Record → Waiting → List Record
-liveAfter t live Nothing = live
+unfoldable pub liveAfter : ℕ → List Record → Request → List Record
 liveAfter t live (Insert key value label first second) = live ++ (recordOf key value label (stampOf t) ∷ [])
 liveAfter t live Extract = without (smallest live .stamp) live
 liveAfter t live (Delete label stamp) = cond (found (named label stamp) live) (without stamp live) live

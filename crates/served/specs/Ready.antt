@@ -5,10 +5,10 @@ use mathlib.Core.Path.{_≡_}
 use Rattle.record.specs.declared.Record.{Record}
 use Rattle.refusal.specs.Refusal.{firstGiven}
 use Rattle.card.specs.declared.Card.{Card}
-use Rattle.card.specs.Tables.{requestTable}
+use Rattle.card.specs.Tables.{partsOf, waitingTable}
 use Rattle.good.specs.Heap.{Heap}
 
 -- They hold a good heap of these live events, and the request that waits, if any, is one that begin takes.
 pub record Ready (k : Card) (tree : List ℕ) (live : List Record) : Type 0 where
-  pub heap : Heap (k .sizes) (k .t) (k .c) (k .root) (k .least) tree live
-  pub waiting : firstGiven (requestTable k (k .waiting)) ≡ 0
+  pub heap : Heap (partsOf k) (k .root) tree live
+  pub waiting : firstGiven (waitingTable k (k .waiting)) ≡ 0

@@ -8,6 +8,7 @@ use Rattle.record.specs.declared.Leaf.{Leaf}
 use Rattle.record.specs.declared.Record.{Record}
 use Rattle.path.specs.declared.sizes.Sizes.{Sizes}
 use Rattle.path.specs.Layout.{Contents}
+use Rattle.parts.specs.declared.Parts.{Parts}
 use Rattle.least.specs.Least.{rootSlots}
 use Rattle.clearing.specs.Removal.{found}
 use Rattle.gather.specs.Shown.{siblingsShown, slotsShown, wayShown}
@@ -62,48 +63,55 @@ module _ (s : Sizes) (root : List Record) (ws : List ℕ) where
   abbrev pub upperLeft : Leaf → Leaf → Record → List Contents
   upperLeft first second new = pathBuckets s second (upperBeside first new) (upperAfter first second new)
 
-module _ (s : Sizes) (c : ℕ) (root : List Record) (ws : List ℕ) where
+module _ (p : Parts) (root : List Record) (ws : List ℕ) where
+  abbrev way : List Record
+  way = pathWay (p .sizes) root ws
+
   -- ExtractMin and Delete: the record that passes is replaced by the dummy, "or answers Absent and removes nothing. Then
   -- the path is evicted."
   unfoldable pub removal : Leaf → (Record → Bool) → Left
   removal q f =
       record {
-        root = rooted (s .r) (removalRoot s q f (pathWay s root ws)) root;
-        least = removalLeast s q f (pathSiblings s ws) (pathWay s root ws);
-        c = cond (found f (pathWay s root ws)) (c - 1) c;
-        found = found f (pathWay s root ws);
-        buckets = removalBuckets s q f (pathSiblings s ws) (pathWay s root ws);
+        root = rooted (p .sizes .r) (removalRoot (p .sizes) q f way) root;
+        least = removalLeast (p .sizes) q f (pathSiblings (p .sizes) ws) way;
+        c = cond (found f way) (p .c - 1) (p .c);
+        found = found f way;
+        buckets = removalBuckets (p .sizes) q f (pathSiblings (p .sizes) ws) way;
       }
 
   unfoldable pub insertion : Leaf → Leaf → Record → Left
   insertion first second new =
       record {
-        root = rooted (s .r) (rootSlots (s .r) (upperAfter s root ws first second new)) root;
-        least = leastAfter s second (upperBeside s root ws first new) (upperAfter s root ws first second new);
-        c = suc c;
+        root = rooted (p .sizes .r) (rootSlots (p .sizes .r) (upperAfter (p .sizes) root ws first second new)) root;
+        least = leastAfter (p .sizes) second (upperBeside (p .sizes) root ws first new) (upperAfter (p .sizes) root ws first second new);
+        c = suc (p .c);
         found = false;
-        buckets = lowerLeft s root ws first new ++ upperLeft s root ws first second new;
+        buckets = lowerLeft (p .sizes) root ws first new ++ upperLeft (p .sizes) root ws first second new;
       }
 
--- "or the card that would come out is a BadCard": that card has finished one request more, and none waits on it
-abbrev pub badLeft : Sizes → ℕ → Left → Bool
-badLeft s t l = badParts s (suc t) (l .c) (l .root) (l .least)
+-- the parts of the card that comes out, with so many live events and this least record: "Every finished Insert, ExtractMin and
+-- Delete adds 1 to t."
+abbrev pub partsAfter : Parts → ℕ → Record → Parts
+partsAfter p c least = record { sizes = p .sizes; t = suc (p .t); c = c; least = least }
 
--- Damaged, its first three clauses: those of what was fetched
-module _ (s : Sizes) (t : ℕ) (root : List Record) (least : Record) (ws : List ℕ) where
+-- "or the card that would come out is a BadCard": no request waits on that card
+abbrev pub badLeft : Parts → Left → Bool
+badLeft p l = badParts (partsAfter p (l .c) (l .least)) (l .root)
+
+-- Damaged: its first three clauses, those of what was fetched, of one path and of an Insert's two; and with the fourth
+module _ (p : Parts) (root : List Record) (ws : List ℕ) where
   abbrev pub pathBad : Leaf → Bool
-  pathBad q = pathDamaged (s .h) (s .r) (stampOf t) least (pathFetched (s .h) (s .z) q ws) (pathWay s root ws)
+  pathBad q =
+      pathDamaged (p .sizes .h) (p .sizes .r) (stampOf (p .t)) (p .least) (pathFetched (p .sizes .h) (p .sizes .z) q ws)
+      (pathWay (p .sizes) root ws)
 
   abbrev pub pairBad : Leaf → Leaf → Bool
   pairBad first second =
-      pairDamaged (s .h) (s .r) (stampOf t) least (firstFetched (s .h) (s .z) first ws) (secondFetched (s .h) (s .z) second ws)
-      (wayShown (2 * s .h) (s .z) (s .r) root ws 0)
+      pairDamaged (p .sizes .h) (p .sizes .r) (stampOf (p .t)) (p .least) (firstFetched (p .sizes .h) (p .sizes .z) first ws)
+      (secondFetched (p .sizes .h) (p .sizes .z) second ws) (wayShown (2 * p .sizes .h) (p .sizes .z) (p .sizes .r) root ws 0)
 
--- Damaged, all four clauses
-module _ (s : Sizes) (t c : ℕ) (root : List Record) (least : Record) (ws : List ℕ) where
   unfoldable pub removalDamaged : Leaf → (Record → Bool) → Bool
-  removalDamaged q f = pathBad s t root least ws q || badLeft s t (removal s c root ws q f)
+  removalDamaged q f = pathBad q || badLeft p (removal p root ws q f)
 
   unfoldable pub insertionDamaged : Leaf → Leaf → Record → Bool
-  insertionDamaged first second new =
-      pairBad s t root least ws first second || badLeft s t (insertion s c root ws first second new)
+  insertionDamaged first second new = pairBad first second || badLeft p (insertion p root ws first second new)

@@ -6,8 +6,9 @@ ghost use mathlib.Core.Path.{_≡_};
 ghost use Prim.Native.Nat.{_+_, _*_, _≤_};
 ghost use Rattle.path.specs.Layout.{bucketWords};
 ghost use Rattle.judge.specs.BadParts.{badParts};
-ghost use Rattle.settle.specs.Room.{Cut};
+ghost use Rattle.path.specs.Cut.{Cut};
 ghost use Rattle.settle.specs.Settled.{unsettled, judged};
+use parts::Parts;
 use path::HEIGHT_MOST;
 use path::ROOT_PLACES;
 use path::ROOT_WORDS;
@@ -58,13 +59,14 @@ pub fn path_words(sizes: Sizes) -> usize
 }
 
 // For crates above: Damaged, the parts as they came.
-pub fn unsettled(root: [Record; 64], least: Record, c: u64) -> Settled
-    ensures { λ out. ⌜ out ≡ unsettled root least c ⌝ }
+pub fn unsettled(root: [Record; 64], parts: Parts) -> Settled
+    ensures { λ out. ⌜ out ≡ unsettled parts root ⌝ }
 {
+    let least = parts.least;
     Settled {
         root: root,
         least: least,
-        c: c,
+        c: parts.c,
         found: false,
         moved: 0,
         damaged: true,
@@ -72,29 +74,29 @@ pub fn unsettled(root: [Record; 64], least: Record, c: u64) -> Settled
 }
 
 // "or the card that would come out is a BadCard"; no request waits on it.
-fn comes_out_bad(root: [Record; 64], sizes: Sizes, t: u64, c: u64, least: Record) -> bool
-    ensures { λ b. ⌜ b ≡ badParts sizes t c root least ⌝ }
+fn comes_out_bad(root: [Record; 64], parts: Parts) -> bool
+    ensures { λ b. ⌜ b ≡ badParts parts root ⌝ }
 {
     let mut places = [0u64; ROOT_WORDS];
     gather::load_root(&mut places, root, ROOT_PLACES);
-    judge::are_parts_bad(&places, sizes, t, c, least)
+    judge::are_parts_bad(&places, parts)
 }
 
-// For crates above: what would come out of a finish; or, where that is a BadCard, Damaged.
-pub fn judged(
-    root: [Record; 64],
-    least: Record,
-    c: u64,
-    sizes: Sizes,
-    t: u64,
-    next: Settled,
-) -> Settled
-    ensures { λ out. ⌜ out ≡ judged root least c sizes t next ⌝ }
+// For crates above: what would come out of a finish of one request more; or, where that is a BadCard, Damaged.
+pub fn judged(root: [Record; 64], parts: Parts, next: Settled) -> Settled
+    requires { ⌜ parts .t ≤ 4294967295 ⌝ }
+    ensures { λ out. ⌜ out ≡ judged parts root next ⌝ }
 {
     let next_root = next.root;
     let next_least = next.least;
-    if comes_out_bad(next_root, sizes, t, next.c, next_least) {
-        return unsettled(root, least, c);
+    let next_parts = Parts {
+        t: parts.t + 1,
+        c: next.c,
+        least: next_least,
+        ..parts
+    };
+    if comes_out_bad(next_root, next_parts) {
+        return unsettled(root, parts);
     }
     next
 }

@@ -1,4 +1,4 @@
--- What the laws of this folder ask of the type of a plain parameter, and that a number, a Leaf and a Stamp have it.
+-- What the laws of this folder ask of the type of a plain parameter, and that a number and a Request have it.
 -- Assumes nothing.
 use mathlib.Core.Path.{_≡_, refl}
 use mathlib.Core.List.{[], _∷_}
@@ -15,11 +15,9 @@ use denote.Laws.{Is, Tells}
 use denote.Plain.{uint-tells}
 use denote.Builtin.{u64}
 use denote.Exit.{Last, left, yes}
-use denote.Struct.Laws as LL
-use Rattle.record.proofs.Leaf as L
-use Rattle.record.proofs.Leaf.Laws as L′
-use Rattle.record.proofs.Stamp as S
-use Rattle.record.proofs.Stamp.Laws as S′
+use denote.Enum.Laws as EL
+use Rattle.request.proofs.Request as Q
+use Rattle.request.proofs.Request.Laws as Q′
 
 -- the type, its MIR type, the one value that shows each of its inhabitants; and that it owes nothing when the call is over
 pub record Arg : Type 2 where
@@ -42,24 +40,13 @@ a-u64 = record {
   silent = λ x f. refl;
 }
 
-abbrev pub a-Leaf : Arg
-a-Leaf = record {
-  row = L.the-row;
-  ty = L′.mir;
-  val = LL.val L.the-type L′.the-laws;
-  tells = LL.tells L.the-type L′.the-laws;
-  typed = λ 𝓤 H A W x g. LL.lawful L.the-type L′.the-laws 𝓤 H A W .typed x _ g .0;
-  last = λ x. tt;
-  silent = λ x f. refl;
-}
-
-abbrev pub a-Stamp : Arg
-a-Stamp = record {
-  row = S.the-row;
-  ty = S′.mir;
-  val = LL.val S.the-type S′.the-laws;
-  tells = LL.tells S.the-type S′.the-laws;
-  typed = λ 𝓤 H A W x g. LL.lawful S.the-type S′.the-laws 𝓤 H A W .typed x _ g .0;
+abbrev pub a-Request : Arg
+a-Request = record {
+  row = Q.the-row;
+  ty = Q′.mir;
+  val = EL.val Q.the-type Q′.the-laws;
+  tells = EL.tells Q.the-type Q′.the-laws;
+  typed = λ 𝓤 H A W x g. EL.lawful Q.the-type Q′.the-laws 𝓤 H A W tt .typed x _ g .0;
   last = λ x. tt;
   silent = λ x f. refl;
 }

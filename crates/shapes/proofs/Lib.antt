@@ -3,6 +3,5 @@ pub mod Arg
 pub mod Holds
 pub mod OfCard
 pub mod OfCardAndSlice
-pub mod OfTwoAndSlice
+pub mod OfOneAndSlice
 pub mod OfFour
-pub mod OfFiveAndSlice

@@ -16,24 +16,25 @@ use Rattle.copies.specs.Copy.{fetched}
 use Rattle.card.specs.declared.Card.{Card}
 use Rattle.card.specs.declared.Done.{Done}
 use Rattle.answers.specs.declared.Answer.the-variants.{Refused}
-use Rattle.request.specs.declared.Waiting.{Waiting}
+use Rattle.request.specs.declared.Request.{Request}
+use Rattle.request.specs.declared.Waiting.the-variants.{For}
 use Rattle.request.specs.Tables.{waits}
 use Rattle.card.specs.Tables.{requestTable}
 use Rattle.card.specs.Calls.{withWaiting, listOf}
 use Rattle.answers.specs.Answers.{numberOf}
 use Rattle.card.specs.Answers.{refused, orRefused}
-use Rattle.card.specs.Finish.{leftBy, cardLeft, finished}
+use Rattle.card.specs.Finish.{leftBy, cardLeft, finishedBy}
 use Rattle.refusal.proofs.RefusalLaws.{left-before}
 use Rattle.card.proofs.CallLaws.{same-list}
 use Rattle.served.specs.Ready.{Ready}
 use Rattle.served.specs.LiveAfter.{liveAfter}
 use Rattle.served.proofs.CallLaws.{begin-ready}
-use Rattle.served.proofs.FinishedLaws.{WordKey, finished-card}
+use Rattle.served.proofs.FinishedLaws.{WordKey}
 use Rattle.rounds.specs.Round.{wordPlaces, roundRefusal, roundDone, roundTree}
 use Rattle.honest.proofs.RoundLaws.{round-number, round-ready}
 use Rattle.demands.specs.Queue.{Queue, reply, next}
 use Rattle.demands.specs.Says.{asks, says}
-use Rattle.demands.proofs.AnswerLaws.{queueOf, finish-says, finish-numbered, next-events, next-taken}
+use Rattle.demands.proofs.AnswerLaws.{queueOf, finished-number, finish-says, next-events, next-taken}
 use Rattle.steps.specs.declared.Desk.{Desk}
 use Rattle.steps.specs.Step.{treeWordsUsed, usedOf, tells, kept, head, rest, played}
 use Rattle.steady.specs.Steady.{Holds}
@@ -64,7 +65,7 @@ module _ (desk : Desk) (tree : List ℕ) (q : Queue) (h : Holds desk tree q) whe
   pub own-queue : queueOf (h .live) (k .t) ≡ q
   own-queue = λ i. record { events = h .events i; taken = h .taken i }
 
-  module _ (w : Waiting) (word : WordKey w) (some : waits w ≡ true) where
+  module _ (w : Request) (word : WordKey w) where
     abbrev number : ℕ
     number = firstGiven (requestTable k w)
 
@@ -75,7 +76,7 @@ module _ (desk : Desk) (tree : List ℕ) (q : Queue) (h : Holds desk tree q) whe
     after = roundTree k w (head desk tree)
 
     round-is : roundRefusal k w (head desk tree) ≡ number
-    round-is = round-number k (head desk tree) (h .live) (h .ready) (h .idle) w word some
+    round-is = round-number k (head desk tree) (h .live) (h .ready) (h .idle) w word
 
     -- ---- refused
     module _ (some-number : number ≡ 0 → ⊥) where
@@ -96,7 +97,7 @@ module _ (desk : Desk) (tree : List ℕ) (q : Queue) (h : Holds desk tree q) whe
     -- ---- answered
     module _ (none : number ≡ 0) where
       abbrev waiting : Card
-      waiting = withWaiting k w
+      waiting = withWaiting k (For w)
 
       ready : Ready waiting (head desk tree) (h .live)
       ready = begin-ready k (head desk tree) (h .live) w (h .ready) none
@@ -104,28 +105,29 @@ module _ (desk : Desk) (tree : List ℕ) (q : Queue) (h : Holds desk tree q) whe
       abbrev shown : BucketList → List ℕ
       shown l = fetched (k .sizes .z) (head desk tree) l wordPlaces
 
-      finished-done : out ≡ finished waiting (shown (listOf waiting w))
+      finished-done : out ≡ finishedBy waiting w (leftBy waiting w (shown (listOf waiting w)))
       unfolding roundDone orRefused
       finished-done =
-          rw (round-is, none) (ap (λ (l : BucketList). finished waiting (shown l)) (same-list k waiting w refl refl))
+          rw (round-is, none) (ap (λ (l : BucketList). finishedBy waiting w (leftBy waiting w (shown l))) (same-list k waiting w refl refl))
 
       card-left : out .card ≡ cardLeft waiting (leftBy waiting w (shown (listOf waiting w)))
-      card-left = ap (λ (d : Done). d .card) finished-done ∙ finished-card waiting w _ some
+      unfolding finishedBy
+      card-left = ap (λ (d : Done). d .card) finished-done
 
       pub round-sizes : out .card .sizes ≡ k .sizes
       round-sizes = ap (λ (c : Card). c .sizes) card-left
 
       pub round-says : says (out .answer) ≡ reply q (asks w)
       round-says =
-          ap (λ (d : Done). says (d .answer)) finished-done ∙ finish-says waiting (head desk tree) (h .live) ready wordPlaces some
+          ap (λ (d : Done). says (d .answer)) finished-done ∙ finish-says waiting (head desk tree) (h .live) ready w refl wordPlaces
           ∙ ap (λ (p : Queue). reply p (asks w)) own-queue
 
       pub round-numbered : numberOf (out .answer) ≡ 0
       round-numbered =
-          ap (λ (d : Done). numberOf (d .answer)) finished-done ∙ finish-numbered waiting (head desk tree) (h .live) ready wordPlaces some
+          ap (λ (d : Done). numberOf (d .answer)) finished-done ∙ finished-number waiting w _
 
       again : Ready (out .card) after (liveAfter (k .t) (h .live) w)
-      again = round-ready k (head desk tree) (h .live) (h .ready) (h .idle) w word some none
+      again = round-ready k (head desk tree) (h .live) (h .ready) (h .idle) w word none
 
       pub round-holds : Holds (record { sized = true; card = out .card }) (after ++ rest desk tree) (next q (asks w))
       round-holds =
@@ -134,8 +136,8 @@ module _ (desk : Desk) (tree : List ℕ) (q : Queue) (h : Holds desk tree q) whe
             live = liveAfter (k .t) (h .live) w;
             ready = rw (own-head (record { sized = true; card = out .card }) after (rest desk tree) (again .heap .sizes) (again .heap .words)) again;
             idle = rw card-left (left-idle waiting (leftBy waiting w (shown (listOf waiting w))));
-            events = next-events waiting (head desk tree) (h .live) ready ∙ ap (λ (p : Queue). next p (asks w) .events) own-queue;
+            events = next-events waiting (head desk tree) (h .live) ready w refl ∙ ap (λ (p : Queue). next p (asks w) .events) own-queue;
             taken =
-                ap (λ (c : Card). c .t) card-left ∙ next-taken waiting (head desk tree) (h .live) ready some
+                ap (λ (c : Card). c .t) card-left ∙ next-taken (k .t) (h .live) w
                 ∙ ap (λ (p : Queue). next p (asks w) .taken) own-queue;
           }

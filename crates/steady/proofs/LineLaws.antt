@@ -1,5 +1,5 @@
 -- One line on a desk that holds a queue, or none: what it comes to, and what the desk holds then. Assumes nothing.
-use Prim.Native.Nat.{ℕ, _≤_}
+use Prim.Native.Nat.{ℕ}
 use mathlib.Core.Bool.{Bool, true, false, cond}
 use mathlib.Core.List.{List, []}
 use mathlib.Core.Logic.{inl, inr}
@@ -10,7 +10,6 @@ use native.Mathlib.Omega.{arith}
 use lib.Dec.{eqb}
 use lib.ListN.{length, length-map, drop}
 use borrow.Author.Tests.{eqb-true, eqb-false, eq-eqb, ne-eqb}
-use Rattle.record.specs.Standing.{dummyKey}
 use Rattle.lists.specs.BucketList.{wordsMoved, sum}
 use Rattle.path.specs.declared.sizes.Sizes.{Sizes}
 use Rattle.path.specs.Sizes.{sizesOf, inRange}
@@ -18,19 +17,19 @@ use Rattle.path.specs.Layout.{freshTree}
 use Rattle.refusal.specs.Refusal.{Refusal, firstGiven}
 use Rattle.card.specs.declared.Card.{Card}
 use Rattle.answers.specs.declared.Answer.the-variants.{Least, Refused}
-use Rattle.request.specs.declared.Waiting.{Waiting}
-use Rattle.request.specs.declared.Waiting.the-variants.{Insert as AskInsert, Extract as AskExtract, Delete as AskDelete}
+use Rattle.request.specs.declared.Request.{Request}
 use Rattle.request.specs.Tables.{requestRows, waits}
 use Rattle.card.specs.Tables.{requestTable}
+use Rattle.checks.specs.Checks.{callRows}
 use Rattle.card.specs.Answers.{refused, orRefused}
-use Rattle.card.specs.Calls.{freshCard, minTable, foundMin}
+use Rattle.card.specs.Calls.{callTable, freshCard, foundMin}
 use Rattle.served.proofs.CallLaws.{start-ready, ready-card}
 use Rattle.served.proofs.FinishedLaws.{WordKey}
 use Rattle.demands.specs.Queue.{Queue, findMin, emptyQueue, leastEvent, reply, next, told}
 use Rattle.demands.specs.Says.{eventOf, asks}
 use Rattle.demands.proofs.AnswerLaws.{least-told}
 use Rattle.lines.specs.declared.Line.{Line}
-use Rattle.lines.specs.declared.Line.the-variants.{Unreadable, Size, Insert, Min, Extract, Delete}
+use Rattle.lines.specs.declared.Line.the-variants.{Unreadable, Size, Min, Ask}
 use Rattle.steps.specs.declared.Desk.{Desk}
 use Rattle.steps.specs.declared.Turn.{Turn}
 use Rattle.steps.specs.Step.{LineLeft, nothing, unread, tells, kept, fresh, sizedTo, tooLarge, treeWordsUsed, head, played, askedFor, minDone, minOf, stepOf}
@@ -77,7 +76,7 @@ module _ (desk : Desk) (tree : List ℕ) (q : Option Queue) (k : Keeps desk tree
 
 -- ---- a line that asks something of the card
 module _ (desk : Desk) (tree : List ℕ) (q : Queue) (h : Holds desk tree q) where
-  asked-played : (w : Waiting) → played desk tree w ≡ askedFor desk tree w
+  asked-played : (w : Request) → played desk tree w ≡ askedFor desk tree w
   unfolding askedFor
   asked-played w = ap (λ (b : Bool). cond b (played desk tree w) (nothing desk tree)) (sym (h .sized))
 
@@ -85,22 +84,16 @@ module _ (desk : Desk) (tree : List ℕ) (q : Queue) (h : Holds desk tree q) whe
   events-counted : desk .card .c ≡ length (q .events)
   events-counted = h .ready .heap .count ∙ sym (length-map (h .live) eventOf) ∙ ap length (h .events)
 
-  abbrev rows : Waiting → List Refusal
-  rows = requestRows (desk .card .sizes) (q .taken) (length (q .events)) (desk .card .root)
-
-  same-rows : (w : Waiting) → requestTable (desk .card) w ≡ rows w
-  same-rows w = λ i. requestRows (desk .card .sizes) (h .taken i) (events-counted i) (desk .card .root) w
-
-  module _ (line : Line) (w : Waiting) (word : WordKey w) (busy : waits w ≡ true) (same : wants line ≡ some (asks w)) (own : refusals (desk .card) q line ≡ rows w) where
-    own-number : firstGiven (requestTable (desk .card) w) ≡ firstGiven (refusals (desk .card) q line)
-    own-number = ap firstGiven (same-rows w ∙ sym own)
+  module _ (w : Request) (word : WordKey w) where
+    own-number : firstGiven (requestTable (desk .card) w) ≡ firstGiven (refusals (desk .card) q (Ask w))
+    own-number = λ i. firstGiven (requestRows (desk .card .sizes) (h .taken i) (events-counted i) (desk .card .root) w)
 
     -- refused by the first of its own rows that is given, or answered
-    played-line : Played desk tree (some q) line (played desk tree w)
+    played-line : Played desk tree (some q) (Ask w) (played desk tree w)
     played-line = elim (dichotomy (eqb (firstGiven (requestTable (desk .card) w)) 0)) [
       | inl f ↦
           let n = eqb-false _ _ f in
-          let e = round-refused desk tree q h w word busy n in
+          let e = round-refused desk tree q h w word n in
           record {
             held = some q;
             turns =
@@ -113,14 +106,14 @@ module _ (desk : Desk) (tree : List ℕ) (q : Queue) (h : Holds desk tree q) whe
           record {
             held = some (next q (asks w));
             turns =
-                answered q (asks w) _ refl same (sym own-number ∙ n) (round-sizes desk tree q h w word busy n) refl (round-numbered desk tree q h w word busy n)
-                (round-says desk tree q h w word busy n);
-            keeps = round-holds desk tree q h w word busy n;
+                answered q (asks w) _ refl refl (sym own-number ∙ n) (round-sizes desk tree q h w word n) refl (round-numbered desk tree q h w word n)
+                (round-says desk tree q h w word n);
+            keeps = round-holds desk tree q h w word n;
           }
     ]
 
-    asked-line : Played desk tree (some q) line (askedFor desk tree w)
-    asked-line = subst (Played desk tree (some q) line) (asked-played w) played-line
+    asked-line : Played desk tree (some q) (Ask w) (askedFor desk tree w)
+    asked-line = subst (Played desk tree (some q) (Ask w)) (asked-played w) played-line
 
   -- ---- `min`
   abbrev k : Card
@@ -131,11 +124,11 @@ module _ (desk : Desk) (tree : List ℕ) (q : Queue) (h : Holds desk tree q) whe
   min-told = ap (λ (b : Bool). cond b (tells (minDone k)) (unread desk)) (h .sized)
 
   none-least : k .c ≡ 0 → minDone k ≡ refused k 8
-  unfolding minTable firstGiven orRefused
+  unfolding callTable callRows firstGiven orRefused
   none-least e = rw (ready-card k (head desk tree) (h .live) (h .ready), h .idle, eq-eqb (k .c) 0 e)
 
   some-least : (k .c ≡ 0 → ⊥) → minDone k ≡ foundMin k
-  unfolding minTable firstGiven orRefused
+  unfolding callTable callRows firstGiven orRefused
   some-least n = rw (ready-card k (head desk tree) (h .live) (h .ready), h .idle, ne-eqb (k .c) 0 n)
 
   min-empty : k .c ≡ 0 → minOf desk ≡ kept desk (Refused 8)
@@ -182,31 +175,24 @@ module _ (desk : Desk) (tree : List ℕ) (q : Queue) (h : Holds desk tree q) whe
 abbrev pub WordLine : Line → Type 0
 WordLine Unreadable = Unit {0}
 WordLine (Size h z r t) = Unit {0}
-WordLine (Insert key value label first second) = key ≤ dummyKey
 WordLine Min = Unit {0}
-WordLine Extract = Unit {0}
-WordLine (Delete label stamp) = Unit {0}
+WordLine (Ask r) = WordKey r
 
 module _ (desk : Desk) (tree : List ℕ) where
   pub held-line : (q : Queue) → Holds desk tree q → (line : Line) → WordLine line → Played desk tree (some q) line (stepOf desk line tree)
-  unfolding stepOf waits requestRows
+  unfolding stepOf
   held-line q h Unreadable word = stays desk tree (some q) h unreadable refl
   held-line q h (Size height z r t) word = size-line desk tree (some q) h height z r t
-  held-line q h (Insert key value label first second) word =
-      asked-line desk tree q h (Insert key value label first second) (AskInsert key value label first second) word refl refl refl
   held-line q h Min word = min-line desk tree q h
-  held-line q h Extract word = asked-line desk tree q h Extract AskExtract tt refl refl refl
-  held-line q h (Delete label stamp) word = asked-line desk tree q h (Delete label stamp) (AskDelete label stamp) tt refl refl refl
+  held-line q h (Ask r) word = asked-line desk tree q h r word
 
   -- before any accepted `size`
   early-line : desk .sized ≡ false → (line : Line) → Played desk tree none line (stepOf desk line tree)
   unfolding stepOf askedFor minOf
   early-line e Unreadable = stays desk tree none e unreadable refl
   early-line e (Size height z r t) = size-line desk tree none e height z r t
-  early-line e (Insert key value label first second) = stays desk tree none e (early refl) (rw e)
   early-line e Min = stays desk tree none e (early refl) (rw e)
-  early-line e Extract = stays desk tree none e (early refl) (rw e)
-  early-line e (Delete label stamp) = stays desk tree none e (early refl) (rw e)
+  early-line e (Ask r) = stays desk tree none e (early refl) (rw e)
 
   pub one-line : (q : Option Queue) → Keeps desk tree q → (line : Line) → WordLine line → Played desk tree q line (stepOf desk line tree)
   one-line none k line word = early-line k line

@@ -10,39 +10,34 @@ use lib.ListN.{length}
 use Rattle.record.specs.declared.Record.{Record}
 use Rattle.path.specs.Sizes.{sizesOf, inRange}
 use Rattle.refusal.specs.Refusal.{Refusal, row, firstGiven}
-use Rattle.request.specs.Tables.{insertRows, extractRows, deleteRows, waits}
+use Rattle.request.specs.Tables.{requestRows, waits}
 use Rattle.card.specs.declared.Card.{Card}
 use Rattle.answers.specs.declared.Answer.{Answer}
 use Rattle.answers.specs.declared.Answer.the-variants.{Started, Refused}
 use Rattle.answers.specs.Answers.{numberOf}
 use Rattle.served.specs.Ready.{Ready}
-use Rattle.demands.specs.Queue.{Queue, Request, insert, findMin, extractMin, delete, emptyQueue, reply, next}
-use Rattle.demands.specs.Says.{refOf, eventOf, says}
+use Rattle.demands.specs.Queue.{Queue, Operation, findMin, emptyQueue, reply, next}
+use Rattle.demands.specs.Says.{eventOf, asks, says}
 use Rattle.lines.specs.declared.Line.{Line}
-use Rattle.lines.specs.declared.Line.the-variants.{Unreadable, Size, Insert, Min, Extract, Delete}
+use Rattle.lines.specs.declared.Line.the-variants.{Unreadable, Size, Min, Ask}
 use Rattle.steps.specs.declared.Desk.{Desk}
 use Rattle.steps.specs.declared.Reply.the-variants.{Said}
 use Rattle.steps.specs.Step.{LineLeft, nothing, kept, head, tooLarge, stepOf}
 
 -- what a line asks of the queue: a `size` asks nothing of the one that was
-abbrev pub wants : Line → Option Request
+abbrev pub wants : Line → Option Operation
 wants Unreadable = none
 wants (Size h z r t) = none
-wants (Insert key value label first second) = some (insert key value (label .0))
 wants Min = some findMin
-wants Extract = some extractMin
-wants (Delete label stamp) = some (delete (refOf label stamp))
+wants (Ask r) = some (asks r)
 
 -- "A refusal prints its number": those that a line can meet, in their order, in the queue's words. t is its count of requests
 -- taken and c the count of its events; sizes and root are the card's. Neither 2 nor 3, and none of 11 to 14
 abbrev pub refusals : Card → Queue → Line → List Refusal
 refusals k q Unreadable = []
 refusals k q (Size h z r t) = []
-refusals k q (Insert key value label first second) =
-    insertRows (k .sizes) (q .taken) (length (q .events)) (k .root) key label first second
 refusals k q Min = row 8 (eqb (length (q .events)) 0) ∷ []
-refusals k q Extract = extractRows (k .sizes) (q .taken) (length (q .events))
-refusals k q (Delete label stamp) = deleteRows (k .sizes) (q .taken) (length (q .events)) label stamp
+refusals k q (Ask r) = requestRows (k .sizes) (q .taken) (length (q .events)) (k .root) r
 
 -- ---- between two lines
 -- the desk holds this queue: card and tree hold a good heap of its events, and no request waits
@@ -63,10 +58,8 @@ Keeps desk tree (some q) = Holds desk tree q
 abbrev pub isSize : Line → Bool
 isSize Unreadable = false
 isSize (Size h z r t) = true
-isSize (Insert key value label first second) = false
 isSize Min = false
-isSize Extract = false
-isSize (Delete label stamp) = false
+isSize (Ask r) = false
 
 -- "A line it can't read, .. one other than `size` before any accepted `size`, or a `size` within its ranges whose tree is over 8,192
 -- words" (or over what is lent)
@@ -96,7 +89,7 @@ module _ (desk : Desk) (tree : List ℕ) (q : Option Queue) (line : Line) (l : L
         → l ≡ record { turn = kept desk (Refused (firstGiven (refusals (desk .card) p line))); tree = tree } → Turns q
     -- where none is given: as the queue answers, and the sizes stay
     answered :
-        (p : Queue) (w : Request) (a : Answer) → q ≡ some p → wants line ≡ some w → firstGiven (refusals (desk .card) p line) ≡ 0
+        (p : Queue) (w : Operation) (a : Answer) → q ≡ some p → wants line ≡ some w → firstGiven (refusals (desk .card) p line) ≡ 0
         → l .turn .desk .card .sizes ≡ desk .card .sizes → l .turn .reply ≡ Said a → numberOf a ≡ 0 → says a ≡ reply p w
         → Turns (some (next p w))
 

@@ -6,12 +6,12 @@ use mathlib.Core.Path.{_≡_, refl, sym, ap, _∙_}
 use lib.ListN.{length, take, drop}
 use borrow.Author.Tests.{not-true, not-false}
 use Rattle.refusal.specs.Refusal.{firstGiven}
-use Rattle.request.specs.declared.Waiting.{Waiting}
+use Rattle.request.specs.declared.Request.{Request}
 use Rattle.card.specs.declared.Done.{Done}
 use Rattle.card.specs.Answers.{Answered}
 use Rattle.card.specs.Calls.{minTable, foundMin}
 use Rattle.lines.specs.declared.Line.{Line}
-use Rattle.lines.specs.declared.Line.the-variants.{Unreadable, Min}
+use Rattle.lines.specs.declared.Line.the-variants.{Unreadable, Min, Ask}
 use Rattle.rounds.specs.Round.{Plays, roundDone, roundTree}
 use Rattle.rounds.proofs.RoundLaws.{comes-to}
 use Rattle.steps.specs.declared.Desk.{Desk}
@@ -34,21 +34,21 @@ module _ (desk : Desk) (tree : List ℕ) where
   min-line turn e = record { said = e; lent = refl }
 
   -- a line that asks for this request
-  module _ (line : Line) (w : Waiting) (is : stepOf desk line tree ≡ askedFor desk tree w) where
-    pub not-sized : (turn : Turn) → not (desk .sized) ≡ true → turn ≡ unread desk → Steps desk line tree tree turn
-    unfolding askedFor
-    not-sized turn h e = steps-as desk line tree tree turn (nothing desk tree) (is ∙ rw (not-true (desk .sized) h)) e refl
+  module _ (r : Request) where
+    pub not-sized : (turn : Turn) → not (desk .sized) ≡ true → turn ≡ unread desk → Steps desk (Ask r) tree tree turn
+    unfolding stepOf askedFor
+    not-sized turn h e = steps-as desk (Ask r) tree tree turn (nothing desk tree) (rw (not-true (desk .sized) h)) e refl
 
     pub was-asked :
         (n : ℕ) (part after : List ℕ) (done : Done) (turn : Turn) → not (desk .sized) ≡ false
-        → n ≡ usedOf (desk .card .sizes .h) (desk .card .sizes .z) (length tree) → Plays (desk .card) w (take n tree) part done
-        → after ≡ part ++ drop n tree → turn ≡ tells done → Steps desk line tree after turn
-    unfolding askedFor
+        → n ≡ usedOf (desk .card .sizes .h) (desk .card .sizes .z) (length tree) → Plays (desk .card) r (take n tree) part done
+        → after ≡ part ++ drop n tree → turn ≡ tells done → Steps desk (Ask r) tree after turn
+    unfolding stepOf askedFor
     was-asked n part after done turn h m p a e =
-        let c = comes-to (desk .card) w (take n tree) part done p in
-        steps-as desk line tree after turn (played desk tree w) (is ∙ rw (not-false (desk .sized) h))
-        (e ∙ ap tells (c .0 ∙ ap (λ (x : ℕ). roundDone (desk .card) w (take x tree)) m))
-        (a ∙ ap (λ (x : List ℕ). x ++ drop n tree) (c .1) ∙ ap (λ (x : ℕ). roundTree (desk .card) w (take x tree) ++ drop x tree) m)
+        let c = comes-to (desk .card) r (take n tree) part done p in
+        steps-as desk (Ask r) tree after turn (played desk tree r) (rw (not-false (desk .sized) h))
+        (e ∙ ap tells (c .0 ∙ ap (λ (x : ℕ). roundDone (desk .card) r (take x tree)) m))
+        (a ∙ ap (λ (x : List ℕ). x ++ drop n tree) (c .1) ∙ ap (λ (x : ℕ). roundTree (desk .card) r (take x tree) ++ drop x tree) m)
 
 -- FindMin
 module _ (desk : Desk) (turn : Turn) where

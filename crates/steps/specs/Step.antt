@@ -10,15 +10,14 @@ use Rattle.path.specs.Sizes.{sizesOf, treeIn, inRange}
 use Rattle.path.specs.Layout.{treeWords, freshTree}
 use Rattle.refusal.specs.Refusal.{firstGiven}
 use Rattle.card.specs.declared.Card.{Card}
-use Rattle.request.specs.declared.Waiting.{Waiting}
-use Rattle.request.specs.declared.Waiting.the-variants.{Insert as AskInsert, Extract as AskExtract, Delete as AskDelete}
+use Rattle.request.specs.declared.Request.{Request}
 use Rattle.answers.specs.declared.Answer.{Answer}
 use Rattle.answers.specs.declared.Answer.the-variants.{Refused}
 use Rattle.card.specs.declared.Done.{Done}
 use Rattle.card.specs.Answers.{orRefused}
 use Rattle.card.specs.Calls.{started, minTable, foundMin}
 use Rattle.lines.specs.declared.Line.{Line}
-use Rattle.lines.specs.declared.Line.the-variants.{Unreadable, Size, Insert, Min, Extract, Delete}
+use Rattle.lines.specs.declared.Line.the-variants.{Unreadable, Size, Min, Ask}
 use Rattle.rounds.specs.Round.{roundDone, roundTree}
 use Rattle.steps.specs.declared.Desk.{Desk}
 use Rattle.steps.specs.declared.Reply.the-variants.{Unreadable as Question, Said}
@@ -78,13 +77,13 @@ module _ (desk : Desk) (tree : List ℕ) where
   abbrev pub rest : List ℕ
   rest = drop (usedOf (desk .card .sizes .h) (desk .card .sizes .z) (length tree)) tree
 
-  abbrev pub played : Waiting → LineLeft
-  played w =
-      record { turn = tells (roundDone (desk .card) w head); tree = roundTree (desk .card) w head ++ rest }
+  abbrev pub played : Request → LineLeft
+  played r =
+      record { turn = tells (roundDone (desk .card) r head); tree = roundTree (desk .card) r head ++ rest }
 
   -- "one other than `size` before any accepted `size` .. prints `?`"
-  unfoldable pub askedFor : Waiting → LineLeft
-  askedFor w = cond (desk .sized) (played w) nothing
+  unfoldable pub askedFor : Request → LineLeft
+  askedFor r = cond (desk .sized) (played r) nothing
 
 -- FindMin: no bucket is fetched
 abbrev pub minDone : Card → Done
@@ -96,10 +95,8 @@ minOf desk = cond (desk .sized) (tells (minDone (desk .card))) (unread desk)
 unfoldable pub stepOf : Desk → Line → List ℕ → LineLeft
 stepOf desk Unreadable tree = nothing desk tree
 stepOf desk (Size h z r t) tree = sizedTo desk tree (sizesOf h z r t)
-stepOf desk (Insert key value label first second) tree = askedFor desk tree (AskInsert key value label first second)
 stepOf desk Min tree = record { turn = minOf desk; tree = tree }
-stepOf desk Extract tree = askedFor desk tree AskExtract
-stepOf desk (Delete label stamp) tree = askedFor desk tree (AskDelete label stamp)
+stepOf desk (Ask r) tree = askedFor desk tree r
 
 -- the promise of a step
 pub record Steps (desk : Desk) (line : Line) (tree after : List ℕ) (turn : Turn) : Type 0 where

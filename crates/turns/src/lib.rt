@@ -11,15 +11,7 @@ pub fn step(desk: Desk, line: Line, tree: &mut [u64]) -> Turn
     match line {
         Line::Unreadable => steps::unread_by(desk),
         Line::Size { h, z, r, t } => afresh::size(desk, h, z, r, t, tree),
-        Line::Insert {
-            key,
-            value,
-            label,
-            first,
-            second,
-        } => { asked::insert(desk, key, value, label, first, second, tree) }
         Line::Min => afresh::min(desk),
-        Line::Extract => asked::extract(desk, tree),
-        Line::Delete { label, stamp } => asked::delete(desk, label, stamp, tree),
+        Line::Ask(request) => asked::ask(desk, request, tree),
     }
 }

@@ -7,12 +7,8 @@ use Rattle.card.proofs.Card.fresh.Kinds as fresh-kinds
 use Rattle.card.proofs.Card.fresh.Reads as fresh
 use Rattle.card.proofs.Card.start.Kinds as start-kinds
 use Rattle.card.proofs.Card.start.Reads as start
-use Rattle.card.proofs.Card.begin_insert.Kinds as begin-insert-kinds
-use Rattle.card.proofs.Card.begin_insert.Reads as begin-insert
-use Rattle.card.proofs.Card.begin_extract.Kinds as begin-extract-kinds
-use Rattle.card.proofs.Card.begin_extract.Reads as begin-extract
-use Rattle.card.proofs.Card.begin_delete.Kinds as begin-delete-kinds
-use Rattle.card.proofs.Card.begin_delete.Reads as begin-delete
+use Rattle.card.proofs.Card.begin.Kinds as begin-kinds
+use Rattle.card.proofs.Card.begin.Reads as begin
 use Rattle.card.proofs.Card.find_min.Kinds as find-min-kinds
 use Rattle.card.proofs.Card.find_min.Reads as find-min
 use Rattle.card.proofs.Card.finish.Kinds as finish-kinds
@@ -30,20 +26,10 @@ one-start =
     one-answer 0 start-kinds.ps start-kinds.r start.Asked start.Learnt _ _
     (λ κs a ok x xs f p. (p .whole, refl))
 
-pub one-begin-insert : Determines 1 begin-insert-kinds.ps begin-insert-kinds.r begin-insert.Asked begin-insert.Learnt
-one-begin-insert =
-    one-answer 1 begin-insert-kinds.ps begin-insert-kinds.r begin-insert.Asked begin-insert.Learnt _ _
-    (λ κs a ok x xs f p. (p .call .whole, λ i. (tt, (tt, (tt, (tt, (tt, (tt, (p .places i, tt)))))))))
-
-pub one-begin-extract : Determines 1 begin-extract-kinds.ps begin-extract-kinds.r begin-extract.Asked begin-extract.Learnt
-one-begin-extract =
-    one-answer 1 begin-extract-kinds.ps begin-extract-kinds.r begin-extract.Asked begin-extract.Learnt _ _
-    (λ κs a ok x xs f p. (p .call .whole, λ i. (tt, (p .places i, tt))))
-
-pub one-begin-delete : Determines 1 begin-delete-kinds.ps begin-delete-kinds.r begin-delete.Asked begin-delete.Learnt
-one-begin-delete =
-    one-answer 1 begin-delete-kinds.ps begin-delete-kinds.r begin-delete.Asked begin-delete.Learnt _ _
-    (λ κs a ok x xs f p. (p .call .whole, λ i. (tt, (tt, (tt, (p .places i, tt))))))
+pub one-begin : Determines 1 begin-kinds.ps begin-kinds.r begin.Asked begin.Learnt
+one-begin =
+    one-answer 1 begin-kinds.ps begin-kinds.r begin.Asked begin.Learnt _ _
+    (λ κs a ok x xs f p. (p .call .whole, λ i. (tt, (tt, (p .places i, tt)))))
 
 pub one-find-min : Determines 0 find-min-kinds.ps find-min-kinds.r find-min.Asked find-min.Learnt
 one-find-min =

@@ -4,12 +4,8 @@ use mathlib.Core.Path.{refl}
 use Rattle.rounds.proofs.RoundLaws.{comes-to}
 use Rattle.unique.specs.One.{Determines}
 use Rattle.unique.proofs.OneLaws.{one-answer}
-use Rattle.rounds.proofs.play_insert.Kinds as play-insert-kinds
-use Rattle.rounds.proofs.play_insert.Reads as play-insert
-use Rattle.rounds.proofs.play_extract.Kinds as play-extract-kinds
-use Rattle.rounds.proofs.play_extract.Reads as play-extract
-use Rattle.rounds.proofs.play_delete.Kinds as play-delete-kinds
-use Rattle.rounds.proofs.play_delete.Reads as play-delete
+use Rattle.rounds.proofs.play.Kinds as play-kinds
+use Rattle.rounds.proofs.play.Reads as play
 use Rattle.steps.proofs.unread_by.Kinds as unread-by-kinds
 use Rattle.steps.proofs.unread_by.Reads as unread-by
 use Rattle.steps.proofs.kept_by.Kinds as kept-by-kinds
@@ -20,12 +16,8 @@ use Rattle.steps.proofs.tree_words.Kinds as tree-words-kinds
 use Rattle.steps.proofs.tree_words.Reads as tree-words
 use Rattle.steps.proofs.used.Kinds as used-kinds
 use Rattle.steps.proofs.used.Reads as used
-use Rattle.asked.proofs.insert.Kinds as asked-insert-kinds
-use Rattle.asked.proofs.insert.Reads as asked-insert
-use Rattle.asked.proofs.extract.Kinds as asked-extract-kinds
-use Rattle.asked.proofs.extract.Reads as asked-extract
-use Rattle.asked.proofs.delete.Kinds as asked-delete-kinds
-use Rattle.asked.proofs.delete.Reads as asked-delete
+use Rattle.asked.proofs.ask.Kinds as ask-kinds
+use Rattle.asked.proofs.ask.Reads as ask
 use Rattle.afresh.proofs.size.Kinds as size-kinds
 use Rattle.afresh.proofs.size.Reads as size
 use Rattle.afresh.proofs.min.Kinds as min-kinds
@@ -39,20 +31,10 @@ use Rattle.replies.proofs.print_reply.Reads as print-reply
 use Rattle.replies.proofs.answer_line.Kinds as answer-line-kinds
 use Rattle.replies.proofs.answer_line.Reads as answer-line
 
-pub one-play-insert : Determines 1 play-insert-kinds.ps play-insert-kinds.r play-insert.Asked play-insert.Learnt
-one-play-insert =
-    one-answer 1 play-insert-kinds.ps play-insert-kinds.r play-insert.Asked play-insert.Learnt _ _
-    (λ κs a ok x xs f p. (comes-to _ _ _ _ _ p .0, λ i. (tt, (tt, (tt, (tt, (tt, (tt, (comes-to _ _ _ _ _ p .1 i, tt)))))))))
-
-pub one-play-extract : Determines 1 play-extract-kinds.ps play-extract-kinds.r play-extract.Asked play-extract.Learnt
-one-play-extract =
-    one-answer 1 play-extract-kinds.ps play-extract-kinds.r play-extract.Asked play-extract.Learnt _ _
-    (λ κs a ok x xs f p. (comes-to _ _ _ _ _ p .0, λ i. (tt, (comes-to _ _ _ _ _ p .1 i, tt))))
-
-pub one-play-delete : Determines 1 play-delete-kinds.ps play-delete-kinds.r play-delete.Asked play-delete.Learnt
-one-play-delete =
-    one-answer 1 play-delete-kinds.ps play-delete-kinds.r play-delete.Asked play-delete.Learnt _ _
-    (λ κs a ok x xs f p. (comes-to _ _ _ _ _ p .0, λ i. (tt, (tt, (tt, (comes-to _ _ _ _ _ p .1 i, tt))))))
+pub one-play : Determines 1 play-kinds.ps play-kinds.r play.Asked play.Learnt
+one-play =
+    one-answer 1 play-kinds.ps play-kinds.r play.Asked play.Learnt _ _
+    (λ κs a ok x xs f p. (comes-to _ _ _ _ _ p .0, λ i. (tt, (tt, (comes-to _ _ _ _ _ p .1 i, tt)))))
 
 pub one-unread-by : Determines 0 unread-by-kinds.ps unread-by-kinds.r unread-by.Asked unread-by.Learnt
 one-unread-by =
@@ -79,20 +61,10 @@ one-used =
     one-answer 0 used-kinds.ps used-kinds.r used.Asked used.Learnt _ _
     (λ κs a ok x xs f p. (p, refl))
 
-pub one-asked-insert : Determines 1 asked-insert-kinds.ps asked-insert-kinds.r asked-insert.Asked asked-insert.Learnt
-one-asked-insert =
-    one-answer 1 asked-insert-kinds.ps asked-insert-kinds.r asked-insert.Asked asked-insert.Learnt _ _
-    (λ κs a ok x xs f p. (p .said, λ i. (tt, (tt, (tt, (tt, (tt, (tt, (p .lent i, tt)))))))))
-
-pub one-asked-extract : Determines 1 asked-extract-kinds.ps asked-extract-kinds.r asked-extract.Asked asked-extract.Learnt
-one-asked-extract =
-    one-answer 1 asked-extract-kinds.ps asked-extract-kinds.r asked-extract.Asked asked-extract.Learnt _ _
-    (λ κs a ok x xs f p. (p .said, λ i. (tt, (p .lent i, tt))))
-
-pub one-asked-delete : Determines 1 asked-delete-kinds.ps asked-delete-kinds.r asked-delete.Asked asked-delete.Learnt
-one-asked-delete =
-    one-answer 1 asked-delete-kinds.ps asked-delete-kinds.r asked-delete.Asked asked-delete.Learnt _ _
-    (λ κs a ok x xs f p. (p .said, λ i. (tt, (tt, (tt, (p .lent i, tt))))))
+pub one-ask : Determines 1 ask-kinds.ps ask-kinds.r ask.Asked ask.Learnt
+one-ask =
+    one-answer 1 ask-kinds.ps ask-kinds.r ask.Asked ask.Learnt _ _
+    (λ κs a ok x xs f p. (p .said, λ i. (tt, (tt, (p .lent i, tt)))))
 
 pub one-size : Determines 1 size-kinds.ps size-kinds.r size.Asked size.Learnt
 one-size =

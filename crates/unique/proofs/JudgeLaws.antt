@@ -8,6 +8,10 @@ use Rattle.request.proofs.is_waiting.Kinds as is-waiting-kinds
 use Rattle.request.proofs.is_waiting.Reads as is-waiting
 use Rattle.request.proofs.why_request.Kinds as why-request-kinds
 use Rattle.request.proofs.why_request.Reads as why-request
+use Rattle.request.proofs.why_waiting.Kinds as why-waiting-kinds
+use Rattle.request.proofs.why_waiting.Reads as why-waiting
+use Rattle.request.proofs.job_of.Kinds as job-of-kinds
+use Rattle.request.proofs.job_of.Reads as job-of
 use Rattle.listing.proofs.list_for.Kinds as list-for-kinds
 use Rattle.listing.proofs.list_for.Reads as list-for
 use Rattle.listing.proofs.is_list_longer.Kinds as is-list-longer-kinds
@@ -28,14 +32,8 @@ use Rattle.sound.proofs.all_sound.Kinds as all-sound-kinds
 use Rattle.sound.proofs.all_sound.Reads as all-sound
 use Rattle.truth.proofs.leasts_true.Kinds as leasts-true-kinds
 use Rattle.truth.proofs.leasts_true.Reads as leasts-true
-use Rattle.checks.proofs.why_busy.Kinds as why-busy-kinds
-use Rattle.checks.proofs.why_busy.Reads as why-busy
-use Rattle.checks.proofs.why_idle.Kinds as why-idle-kinds
-use Rattle.checks.proofs.why_idle.Reads as why-idle
-use Rattle.checks.proofs.why_begin.Kinds as why-begin-kinds
-use Rattle.checks.proofs.why_begin.Reads as why-begin
-use Rattle.checks.proofs.why_finish.Kinds as why-finish-kinds
-use Rattle.checks.proofs.why_finish.Reads as why-finish
+use Rattle.checks.proofs.why.Kinds as why-kinds
+use Rattle.checks.proofs.why.Reads as why
 use Rattle.damage.proofs.path_damaged.Kinds as path-damaged-kinds
 use Rattle.damage.proofs.path_damaged.Reads as path-damaged
 use Rattle.damage.proofs.pair_damaged.Kinds as pair-damaged-kinds
@@ -58,8 +56,8 @@ use Rattle.removal.proofs.settle_removal.Kinds as settle-removal-kinds
 use Rattle.removal.proofs.settle_removal.Reads as settle-removal
 use Rattle.insertion.proofs.settle_insertion.Kinds as settle-insertion-kinds
 use Rattle.insertion.proofs.settle_insertion.Reads as settle-insertion
-use Rattle.finishes.proofs.settle_request.Kinds as settle-request-kinds
-use Rattle.finishes.proofs.settle_request.Reads as settle-request
+use Rattle.finishes.proofs.settle_job.Kinds as settle-job-kinds
+use Rattle.finishes.proofs.settle_job.Reads as settle-job
 
 pub one-is-waiting : Determines 0 is-waiting-kinds.ps is-waiting-kinds.r is-waiting.Asked is-waiting.Learnt
 one-is-waiting =
@@ -71,10 +69,20 @@ one-why-request =
     one-answer 1 why-request-kinds.ps why-request-kinds.r why-request.Asked why-request.Learnt _ _
     (λ κs a ok x xs f p. (p, refl))
 
+pub one-why-waiting : Determines 1 why-waiting-kinds.ps why-waiting-kinds.r why-waiting.Asked why-waiting.Learnt
+one-why-waiting =
+    one-answer 1 why-waiting-kinds.ps why-waiting-kinds.r why-waiting.Asked why-waiting.Learnt _ _
+    (λ κs a ok x xs f p. (p, refl))
+
+pub one-job-of : Determines 0 job-of-kinds.ps job-of-kinds.r job-of.Asked job-of.Learnt
+one-job-of =
+    one-answer 0 job-of-kinds.ps job-of-kinds.r job-of.Asked job-of.Learnt _ _
+    (λ κs a ok x xs f p. (p, refl))
+
 pub one-list-for : Determines 1 list-for-kinds.ps list-for-kinds.r list-for.Asked list-for.Learnt
 one-list-for =
     one-answer 1 list-for-kinds.ps list-for-kinds.r list-for.Asked list-for.Learnt _ _
-    (λ κs a ok x xs f p. (p .counted, λ i. (tt, (tt, (tt, (p .places i, tt))))))
+    (λ κs a ok x xs f p. (p .counted, λ i. (tt, (tt, (p .places i, tt)))))
 
 pub one-is-list-longer : Determines 0 is-list-longer-kinds.ps is-list-longer-kinds.r is-list-longer.Asked is-list-longer.Learnt
 one-is-list-longer =
@@ -121,24 +129,9 @@ one-leasts-true =
     one-answer 2 leasts-true-kinds.ps leasts-true-kinds.r leasts-true.Asked leasts-true.Learnt _ _
     (λ κs a ok x xs f p. (p, refl))
 
-pub one-why-busy : Determines 0 why-busy-kinds.ps why-busy-kinds.r why-busy.Asked why-busy.Learnt
-one-why-busy =
-    one-answer 0 why-busy-kinds.ps why-busy-kinds.r why-busy.Asked why-busy.Learnt _ _
-    (λ κs a ok x xs f p. (p, refl))
-
-pub one-why-idle : Determines 0 why-idle-kinds.ps why-idle-kinds.r why-idle.Asked why-idle.Learnt
-one-why-idle =
-    one-answer 0 why-idle-kinds.ps why-idle-kinds.r why-idle.Asked why-idle.Learnt _ _
-    (λ κs a ok x xs f p. (p, refl))
-
-pub one-why-begin : Determines 0 why-begin-kinds.ps why-begin-kinds.r why-begin.Asked why-begin.Learnt
-one-why-begin =
-    one-answer 0 why-begin-kinds.ps why-begin-kinds.r why-begin.Asked why-begin.Learnt _ _
-    (λ κs a ok x xs f p. (p, refl))
-
-pub one-why-finish : Determines 0 why-finish-kinds.ps why-finish-kinds.r why-finish.Asked why-finish.Learnt
-one-why-finish =
-    one-answer 0 why-finish-kinds.ps why-finish-kinds.r why-finish.Asked why-finish.Learnt _ _
+pub one-why : Determines 0 why-kinds.ps why-kinds.r why.Asked why.Learnt
+one-why =
+    one-answer 0 why-kinds.ps why-kinds.r why.Asked why.Learnt _ _
     (λ κs a ok x xs f p. (p, refl))
 
 pub one-path-damaged : Determines 3 path-damaged-kinds.ps path-damaged-kinds.r path-damaged.Asked path-damaged.Learnt
@@ -174,29 +167,29 @@ one-judged =
 pub one-look-path : Determines 3 look-path-kinds.ps look-path-kinds.r look-path.Asked look-path.Learnt
 one-look-path =
     one-answer 3 look-path-kinds.ps look-path-kinds.r look-path.Asked look-path.Learnt _ _
-    (λ κs a ok x xs f p. (λ i. record { moved = p .shown .counted i; damaged = p .verdict i }, λ i. (tt, (full-words _ _ _ (f .1 .0 ∙ ok .slots) (p .shown .way) i, (full-words _ _ _ (f .1 .1 .0 ∙ ok .siblings) (p .shown .siblings) i, (tt, (tt, (tt, (tt, (tt, tt))))))))))
+    (λ κs a ok x xs f p. (λ i. record { moved = p .shown .counted i; damaged = p .verdict i }, λ i. (tt, (full-words _ _ _ (f .1 .0 ∙ ok .slots) (p .shown .way) i, (full-words _ _ _ (f .1 .1 .0 ∙ ok .siblings) (p .shown .siblings) i, (tt, (tt, (tt, tt))))))))
 
 pub one-look-pair : Determines 3 look-pair-kinds.ps look-pair-kinds.r look-pair.Asked look-pair.Learnt
 one-look-pair =
     one-answer 3 look-pair-kinds.ps look-pair-kinds.r look-pair.Asked look-pair.Learnt _ _
-    (λ κs a ok x xs f p. (λ i. record { moved = p .counted i; damaged = p .verdict i }, λ i. (tt, (full-words _ _ _ (f .1 .0 ∙ ok .slots) (p .way) i, (full-words _ _ _ (f .1 .1 .0 ∙ ok .siblings) (p .siblings) i, (tt, (tt, (tt, (tt, (tt, (tt, tt)))))))))))
+    (λ κs a ok x xs f p. (λ i. record { moved = p .counted i; damaged = p .verdict i }, λ i. (tt, (full-words _ _ _ (f .1 .0 ∙ ok .slots) (p .way) i, (full-words _ _ _ (f .1 .1 .0 ∙ ok .siblings) (p .siblings) i, (tt, (tt, (tt, (tt, tt)))))))))
 
 pub one-prepare-insertion : Determines 3 prepare-insertion-kinds.ps prepare-insertion-kinds.r prepare-insertion.Asked prepare-insertion.Learnt
 one-prepare-insertion =
     one-answer 3 prepare-insertion-kinds.ps prepare-insertion-kinds.r prepare-insertion.Asked prepare-insertion.Learnt _ _
-    (λ κs a ok x xs f p. (p .whole, λ i. (tt, (p .lower i, (p .upper i, (tt, (tt, (tt, (tt, (tt, (tt, (tt, (tt, tt)))))))))))))
+    (λ κs a ok x xs f p. (p .whole, λ i. (tt, (p .lower i, (p .upper i, (tt, (tt, (tt, (tt, (tt, tt))))))))))
 
 pub one-settle-removal : Determines 1 settle-removal-kinds.ps settle-removal-kinds.r settle-removal.Asked settle-removal.Learnt
 one-settle-removal =
     one-answer 1 settle-removal-kinds.ps settle-removal-kinds.r settle-removal.Asked settle-removal.Learnt _ _
-    (λ κs a ok x xs f p. (p .whole, λ i. (p .words i, (tt, (tt, (tt, (tt, (tt, (tt, (tt, tt))))))))))
+    (λ κs a ok x xs f p. (p .whole, λ i. (p .words i, (tt, (tt, (tt, (tt, (tt, tt))))))))
 
 pub one-settle-insertion : Determines 1 settle-insertion-kinds.ps settle-insertion-kinds.r settle-insertion.Asked settle-insertion.Learnt
 one-settle-insertion =
     one-answer 1 settle-insertion-kinds.ps settle-insertion-kinds.r settle-insertion.Asked settle-insertion.Learnt _ _
-    (λ κs a ok x xs f p. (p .whole, λ i. (p .words i, (tt, (tt, (tt, (tt, (tt, (tt, (tt, (tt, tt)))))))))))
+    (λ κs a ok x xs f p. (p .whole, λ i. (p .words i, (tt, (tt, (tt, (tt, (tt, tt))))))))
 
-pub one-settle-request : Determines 1 settle-request-kinds.ps settle-request-kinds.r settle-request.Asked settle-request.Learnt
-one-settle-request =
-    one-answer 1 settle-request-kinds.ps settle-request-kinds.r settle-request.Asked settle-request.Learnt _ _
-    (λ κs a ok x xs f p. (p .whole, λ i. (p .words i, (tt, (tt, (tt, (tt, (tt, (tt, tt)))))))))
+pub one-settle-job : Determines 1 settle-job-kinds.ps settle-job-kinds.r settle-job.Asked settle-job.Learnt
+one-settle-job =
+    one-answer 1 settle-job-kinds.ps settle-job-kinds.r settle-job.Asked settle-job.Learnt _ _
+    (λ κs a ok x xs f p. (p .whole, λ i. (p .words i, (tt, (tt, (tt, tt))))))

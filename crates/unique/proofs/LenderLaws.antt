@@ -4,12 +4,8 @@ use Rattle.unique.specs.One.{Determines}
 use Rattle.unique.proofs.OneLaws.{one-answer}
 use Rattle.lender.proofs.start.Kinds as start-kinds
 use Rattle.lender.proofs.start.Reads as start
-use Rattle.lender.proofs.begin_insert.Kinds as begin-insert-kinds
-use Rattle.lender.proofs.begin_insert.Reads as begin-insert
-use Rattle.lender.proofs.begin_extract.Kinds as begin-extract-kinds
-use Rattle.lender.proofs.begin_extract.Reads as begin-extract
-use Rattle.lender.proofs.begin_delete.Kinds as begin-delete-kinds
-use Rattle.lender.proofs.begin_delete.Reads as begin-delete
+use Rattle.lender.proofs.begin.Kinds as begin-kinds
+use Rattle.lender.proofs.begin.Reads as begin
 use Rattle.lender.proofs.find_min.Kinds as find-min-kinds
 use Rattle.lender.proofs.find_min.Reads as find-min
 use Rattle.lender.proofs.finish.Kinds as finish-kinds
@@ -22,20 +18,10 @@ one-start =
     one-answer 0 start-kinds.ps start-kinds.r start.Asked start.Learnt _ _
     (λ κs a ok x xs f p. (p .whole, refl))
 
-pub one-begin-insert : Determines 1 begin-insert-kinds.ps begin-insert-kinds.r begin-insert.Asked begin-insert.Learnt
-one-begin-insert =
-    one-answer 1 begin-insert-kinds.ps begin-insert-kinds.r begin-insert.Asked begin-insert.Learnt _ _
-    (λ κs a ok x xs f p. (p .call .whole, λ i. (tt, (tt, (tt, (tt, (tt, (tt, (p .places i, tt)))))))))
-
-pub one-begin-extract : Determines 1 begin-extract-kinds.ps begin-extract-kinds.r begin-extract.Asked begin-extract.Learnt
-one-begin-extract =
-    one-answer 1 begin-extract-kinds.ps begin-extract-kinds.r begin-extract.Asked begin-extract.Learnt _ _
-    (λ κs a ok x xs f p. (p .call .whole, λ i. (tt, (p .places i, tt))))
-
-pub one-begin-delete : Determines 1 begin-delete-kinds.ps begin-delete-kinds.r begin-delete.Asked begin-delete.Learnt
-one-begin-delete =
-    one-answer 1 begin-delete-kinds.ps begin-delete-kinds.r begin-delete.Asked begin-delete.Learnt _ _
-    (λ κs a ok x xs f p. (p .call .whole, λ i. (tt, (tt, (tt, (p .places i, tt))))))
+pub one-begin : Determines 1 begin-kinds.ps begin-kinds.r begin.Asked begin.Learnt
+one-begin =
+    one-answer 1 begin-kinds.ps begin-kinds.r begin.Asked begin.Learnt _ _
+    (λ κs a ok x xs f p. (p .call .whole, λ i. (tt, (tt, (p .places i, tt)))))
 
 pub one-find-min : Determines 0 find-min-kinds.ps find-min-kinds.r find-min.Asked find-min.Learnt
 one-find-min =

@@ -4,7 +4,7 @@
 use Prim.Native.Nat.{ℕ}
 use mathlib.Core.List.{List}
 use mathlib.Core.Path.{_≡_, ap}
-use Rattle.request.specs.declared.Waiting.{Waiting}
+use Rattle.request.specs.declared.Request.{Request}
 use Rattle.card.specs.declared.Card.{Card}
 use Rattle.answers.specs.declared.Answer.{Answer}
 use Rattle.card.specs.declared.Done.{Done}
@@ -26,13 +26,13 @@ module _ {left later : Card} {a b : Answer} where
   one-call k number done p q =
       parts (one-seen (λ (d : Done). Answered k number done d) (λ d. d) _ (λ d h. h .whole) (handed left a) (handed later b) p q)
 
-  -- the three begins
+  -- begin
   pub one-begin :
-      (k : Card) (w : Waiting) (list after again : List ℕ) → Begins k w list after (handed left a)
-      → Begins k w list again (handed later b) → ((left ≡ later) × (a ≡ b)) × (after ≡ again)
-  one-begin k w list after again p q =
+      (k : Card) (r : Request) (list after again : List ℕ) → Begins k r list after (handed left a)
+      → Begins k r list again (handed later b) → ((left ≡ later) × (a ≡ b)) × (after ≡ again)
+  one-begin k r list after again p q =
       let one =
-      one-seen (λ (o : Done × List ℕ). Begins k w list (o .1) (o .0)) (λ o. o) _ (λ o h i. (h .call .whole i, h .places i))
+      one-seen (λ (o : Done × List ℕ). Begins k r list (o .1) (o .0)) (λ o. o) _ (λ o h i. (h .call .whole i, h .places i))
       (handed left a, after) (handed later b, again) p q in
       (parts (ap (λ o. o .0) one), ap (λ o. o .1) one)
 

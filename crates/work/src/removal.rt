@@ -26,14 +26,15 @@ pub fn remove_path(
     path: &mut [u64],
     root: [Record; ROOT_PLACES],
     sizes: Sizes,
+    leaf: Leaf,
     label: Leaf,
     stamp: Stamp,
 ) -> Removed
-    requires { ⌜ MendRoom sizes label (now path) (now w) (now sibs) ⌝ }
-    ensures { λ out. ⌜ PathRemoved sizes label (named label stamp) (records (now (sibs .entry))) (records (now (w .entry))) root (now (path .exit)) out ⌝ }
+    requires { ⌜ MendRoom sizes leaf (now path) (now w) (now sibs) ⌝ }
+    ensures { λ out. ⌜ PathRemoved sizes leaf (named label stamp) (records (now (sibs .entry))) (records (now (w .entry))) root (now (path .exit)) out ⌝ }
 {
     let found = clearing::clear(w, label, stamp);
-    let least = work_path(w, sibs, path, sizes, label);
+    let least = work_path(w, sibs, path, sizes, leaf);
     let r = sizes.r as usize;
     let next = gather::save_root(w, root, r);
     Removed {

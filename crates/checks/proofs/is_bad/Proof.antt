@@ -11,14 +11,14 @@ are-parts-bad-requires c κs = search needs
 returns : tie.Need-returns
 returns c = rw (sym (c .before .are-parts-bad .ensures) ∙ c .if1 .taken)
 
-why-request-requires : tie.Need-why-request-requires
-why-request-requires c κs =
+why-waiting-requires : tie.Need-why-waiting-requires
+why-waiting-requires c κs =
     let s = c .before .before .before .args in
-    let r = parts-range (s .sizes) (s .t) (s .c) (records (s .root .now)) (s .least) (sym (c .before .are-parts-bad .ensures) ∙ c .if1 .left) in
+    let r = parts-range (s .parts) (records (s .root .now)) (sym (c .before .are-parts-bad .ensures) ∙ c .if1 .left) in
     (r .tree .height .1, (r .roots .1, search needs))
 
 returns-2 : tie.Need-returns-2
-returns-2 c = rw (sym (c .before .before .are-parts-bad .ensures) ∙ c .before .if1 .left, c .why-request .ensures)
+returns-2 c = rw (sym (c .before .before .are-parts-bad .ensures) ∙ c .before .if1 .left, c .why-waiting .ensures)
 
 pub is-bad-spec : {M : Type 1} → statement M
-is-bad-spec = tie.close (tie.spec are-parts-bad-requires returns why-request-requires returns-2)
+is-bad-spec = tie.close (tie.spec are-parts-bad-requires returns why-waiting-requires returns-2)

@@ -1,32 +1,49 @@
 use borrow.Author.Needs.{needs}
-use mathlib.Core.List.{List}
-use mathlib.Core.Path.{_≡_, refl, ap, _∙_}
-use lib.ListN.{length}
-use Rattle.record.specs.declared.Record.{Record}
-use Rattle.gather.proofs.RootLaws.{length-mapped}
-use Rattle.refusal.specs.Refusal.{firstGiven}
-use Rattle.checks.specs.Checks.{beginChecks}
-use Rattle.checks.proofs.CheckLaws.{root-loaded}
+use mathlib.Core.Path.{sym, _∙_}
+use Rattle.record.specs.Words.{records}
+use Rattle.checks.specs.Checks.{badWith}
+use Rattle.checks.proofs.CheckLaws.{idle-range, begin-busy, begin-fault, begin-room}
 use Rattle.checks.proofs.why_begin.Statement.{statement}
 use Rattle.checks.proofs.why_begin.Tie as tie
 
-slice-aggregate-load-root : tie.Need-slice-aggregate-load-root
-slice-aggregate-load-root c = search needs
-
-load-root-requires : tie.Need-load-root-requires
-load-root-requires c κs = search needs
-
-slice-aggregate-begins : tie.Need-slice-aggregate-begins
-slice-aggregate-begins c = search needs
-
-begins-requires : tie.Need-begins-requires
-begins-requires c κs = search needs
+why-busy-requires : tie.Need-why-busy-requires
+why-busy-requires c κs = search needs
 
 returns : tie.Need-returns
 returns c =
+    let s = c .before .before .before .args in
+    begin-busy _ (s .parts) (records (s .root .now)) (s .waiting) _ (c .before .why-busy .ensures) (s .request) (s .room) (c .if1 .taken)
+
+why-request-requires : tie.Need-why-request-requires
+why-request-requires c κs =
+    let s = c .before .before .before .args in
+    let r = idle-range (s .parts) (records (s .root .now)) (s .waiting) _ (c .before .why-busy .ensures) (c .if1 .left) in
+    (r .tree .height .1, (r .roots .1, search needs))
+
+returns-2 : tie.Need-returns-2
+returns-2 c =
     let s = c .before .before .before .before .before .args in
-    let long : length (s .root) ≡ 64 = search (needs, length-mapped, c .before .before .before .before .before .good) in
-    c .begins .ensures ∙ ap (λ (l : List Record). firstGiven (beginChecks (s .sizes) (s .t) (s .c) l (s .least) (s .waiting) (s .request) (s .room))) (root-loaded _ _ (s .root) (c .before .before .before .load-root .ensures) long refl)
+    begin-fault _ (s .parts) (records (s .root .now)) (s .waiting) _ (c .before .before .before .why-busy .ensures) (s .request) (s .room) (c .before .before .if1 .left) _ (c .before .why-request .ensures) (c .if2 .taken)
+
+job-of-requires : tie.Need-job-of-requires
+job-of-requires c κs = search needs
+
+is-list-longer-requires : tie.Need-is-list-longer-requires
+is-list-longer-requires c κs =
+    let s = c .before .before .before .before .before .before .args in
+    idle-range (s .parts) (records (s .root .now)) (s .waiting) _ (c .before .before .before .before .why-busy .ensures) (c .before .before .before .if1 .left) .tree .height
+
+returns-3 : tie.Need-returns-3
+returns-3 c =
+    let s = c .before .before .before .before .before .before .before .before .args in
+    let e = begin-room _ (s .parts) (records (s .root .now)) (s .waiting) _ (c .before .before .before .before .before .before .why-busy .ensures) (s .request) (s .room) (c .before .before .before .before .before .if1 .left) _ (c .before .before .before .before .why-request .ensures) (c .before .before .before .if2 .left) in
+    sym (e ∙ rw (sym (rw (c .before .before .job-of .ensures) at (c .before .is-list-longer .ensures)) ∙ c .if3 .taken))
+
+returns-4 : tie.Need-returns-4
+returns-4 c =
+    let s = c .before .before .before .before .before .before .before .before .args in
+    let e = begin-room _ (s .parts) (records (s .root .now)) (s .waiting) _ (c .before .before .before .before .before .before .why-busy .ensures) (s .request) (s .room) (c .before .before .before .before .before .if1 .left) _ (c .before .before .before .before .why-request .ensures) (c .before .before .before .if2 .left) in
+    sym (e ∙ rw (sym (rw (c .before .before .job-of .ensures) at (c .before .is-list-longer .ensures)) ∙ c .if3 .left))
 
 pub why-begin-spec : {M : Type 1} → statement M
-why-begin-spec = tie.close (tie.spec slice-aggregate-load-root load-root-requires slice-aggregate-begins begins-requires returns)
+why-begin-spec = tie.close (tie.spec why-busy-requires returns why-request-requires returns-2 job-of-requires is-list-longer-requires returns-3 returns-4)

@@ -1,32 +1,28 @@
 use borrow.Author.Needs.{needs}
-use mathlib.Core.List.{List}
-use mathlib.Core.Path.{_≡_, refl, ap, _∙_}
-use lib.ListN.{length}
-use Rattle.record.specs.declared.Record.{Record}
-use Rattle.gather.proofs.RootLaws.{length-mapped}
+use mathlib.Core.Path.{sym, _∙_}
 use Rattle.refusal.specs.Refusal.{firstGiven}
-use Rattle.checks.specs.Checks.{badWith, busyRows}
-use Rattle.checks.proofs.CheckLaws.{root-loaded}
 use Rattle.checks.proofs.why_busy.Statement.{statement}
 use Rattle.checks.proofs.why_busy.Tie as tie
 
-slice-aggregate-load-root : tie.Need-slice-aggregate-load-root
-slice-aggregate-load-root c = search needs
-
-load-root-requires : tie.Need-load-root-requires
-load-root-requires c κs = search needs
-
-slice-aggregate-busy : tie.Need-slice-aggregate-busy
-slice-aggregate-busy c = search needs
-
-busy-requires : tie.Need-busy-requires
-busy-requires c κs = search needs
+is-bad-requires : tie.Need-is-bad-requires
+is-bad-requires c κs = search needs
 
 returns : tie.Need-returns
-returns c =
-    let s = c .before .before .before .before .before .args in
-    let long : length (s .root) ≡ 64 = search (needs, length-mapped, c .before .before .before .before .before .good) in
-    c .busy .ensures ∙ ap (λ (l : List Record). firstGiven (busyRows (badWith (s .sizes) (s .t) (s .c) l (s .least) (s .waiting)) (s .waiting))) (root-loaded _ _ (s .root) (c .before .before .before .load-root .ensures) long refl)
+unfolding firstGiven
+returns c = rw (sym (c .before .is-bad .ensures) ∙ c .if1 .taken)
+
+is-waiting-requires : tie.Need-is-waiting-requires
+is-waiting-requires c κs = search needs
+
+returns-2 : tie.Need-returns-2
+unfolding firstGiven
+returns-2 c =
+    rw (sym (c .before .before .before .is-bad .ensures) ∙ c .before .before .if1 .left, sym (c .before .is-waiting .ensures) ∙ c .if2 .taken)
+
+returns-3 : tie.Need-returns-3
+unfolding firstGiven
+returns-3 c =
+    rw (sym (c .before .before .before .is-bad .ensures) ∙ c .before .before .if1 .left, sym (c .before .is-waiting .ensures) ∙ c .if2 .left)
 
 pub why-busy-spec : {M : Type 1} → statement M
-why-busy-spec = tie.close (tie.spec slice-aggregate-load-root load-root-requires slice-aggregate-busy busy-requires returns)
+why-busy-spec = tie.close (tie.spec is-bad-requires returns is-waiting-requires returns-2 returns-3)

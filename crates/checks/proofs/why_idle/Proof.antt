@@ -1,32 +1,29 @@
 use borrow.Author.Needs.{needs}
-use mathlib.Core.List.{List}
-use mathlib.Core.Path.{_≡_, refl, ap, _∙_}
-use lib.ListN.{length}
-use Rattle.record.specs.declared.Record.{Record}
-use Rattle.gather.proofs.RootLaws.{length-mapped}
+use mathlib.Core.Path.{sym, _∙_}
+use borrow.Author.Tests.{not-true, not-false}
 use Rattle.refusal.specs.Refusal.{firstGiven}
-use Rattle.checks.specs.Checks.{badWith, idleRows}
-use Rattle.checks.proofs.CheckLaws.{root-loaded}
 use Rattle.checks.proofs.why_idle.Statement.{statement}
 use Rattle.checks.proofs.why_idle.Tie as tie
 
-slice-aggregate-load-root : tie.Need-slice-aggregate-load-root
-slice-aggregate-load-root c = search needs
-
-load-root-requires : tie.Need-load-root-requires
-load-root-requires c κs = search needs
-
-slice-aggregate-idle : tie.Need-slice-aggregate-idle
-slice-aggregate-idle c = search needs
-
-idle-requires : tie.Need-idle-requires
-idle-requires c κs = search needs
+is-bad-requires : tie.Need-is-bad-requires
+is-bad-requires c κs = search needs
 
 returns : tie.Need-returns
-returns c =
-    let s = c .before .before .before .before .before .args in
-    let long : length (s .root) ≡ 64 = search (needs, length-mapped, c .before .before .before .before .before .good) in
-    c .idle .ensures ∙ ap (λ (l : List Record). firstGiven (idleRows (badWith (s .sizes) (s .t) (s .c) l (s .least) (s .waiting)) (s .waiting))) (root-loaded _ _ (s .root) (c .before .before .before .load-root .ensures) long refl)
+unfolding firstGiven
+returns c = rw (sym (c .before .is-bad .ensures) ∙ c .if1 .taken)
+
+is-waiting-requires : tie.Need-is-waiting-requires
+is-waiting-requires c κs = search needs
+
+returns-2 : tie.Need-returns-2
+unfolding firstGiven
+returns-2 c =
+    rw (sym (c .before .before .before .is-bad .ensures) ∙ c .before .before .if1 .left, sym (c .before .is-waiting .ensures) ∙ not-true _ (c .if2 .taken))
+
+returns-3 : tie.Need-returns-3
+unfolding firstGiven
+returns-3 c =
+    rw (sym (c .before .before .before .is-bad .ensures) ∙ c .before .before .if1 .left, sym (c .before .is-waiting .ensures) ∙ not-false _ (c .if2 .left))
 
 pub why-idle-spec : {M : Type 1} → statement M
-why-idle-spec = tie.close (tie.spec slice-aggregate-load-root load-root-requires slice-aggregate-idle idle-requires returns)
+why-idle-spec = tie.close (tie.spec is-bad-requires returns is-waiting-requires returns-2 returns-3)

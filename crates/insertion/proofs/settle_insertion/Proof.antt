@@ -8,7 +8,7 @@ use Rattle.insertion.proofs.settle_insertion.Statement.{statement}
 use Rattle.insertion.proofs.settle_insertion.Tie as tie
 
 path-words-requires : tie.Need-path-words-requires
-path-words-requires c κs = c .before .pre .parts .sizes
+path-words-requires c κs = c .before .before .pre .parts .sizes
 
 sub-one : tie.Need-sub-one
 sub-one c = search needs
@@ -30,23 +30,23 @@ part-upper-end c = search needs
 
 prepare-insertion-requires : tie.Need-prepare-insertion-requires
 prepare-insertion-requires c κs =
-    (c .before .before .before .before .before .before .before .pre, (search needs, search needs))
+    (c .before .before .before .before .before .before .before .before .pre, (search needs, search needs))
 
 write-insertion-requires : tie.Need-write-insertion-requires
 write-insertion-requires c κs =
-    let s = c .before .before .before .before .before .before .before .before .before .before .before .before .before .before .before .args in
-    let p = c .before .before .before .before .before .before .before .before .before .before .before .before .before .before .before .pre in
-    let ready = pair-prepares (s .sizes) (s .t) (s .c) (s .root) (s .least) (s .words .now) (s .first) (s .second) (s .new) _ _ _ _ _ (c .before .before .before .before .before .before .before .prepare-insertion .ensures) in
-    (pair-room (s .sizes) (s .t) (s .c) (s .first) (s .second) (s .words .now) _ _ p (c .before .before .before .before .before .before .before .prepare-insertion .kept .1 .0 ∙ search needs) (c .before .before .before .before .before .before .before .prepare-insertion .kept .1 .1 .0 ∙ search needs), omega (arith, moved-few _ _ _ _ _ _ _ _ ready, p .parts .sizes .height))
+    let s = c .before .before .before .before .before .before .before .before .before .before .before .before .before .before .before .before .args in
+    let p = c .before .before .before .before .before .before .before .before .before .before .before .before .before .before .before .before .pre in
+    let ready = pair-prepares (s .parts) (s .root) (s .words .now) (s .first) (s .second) (s .new) _ _ _ _ _ (c .before .before .before .before .before .before .before .prepare-insertion .ensures) in
+    (pair-room (s .parts) (s .first) (s .second) (s .words .now) _ _ p (c .before .before .before .before .before .before .before .prepare-insertion .kept .1 .0 ∙ search needs) (c .before .before .before .before .before .before .before .prepare-insertion .kept .1 .1 .0 ∙ search needs), omega (arith, moved-few _ _ _ _ _ _ _ ready, p .parts .sizes .height))
 
 same-length : tie.Need-same-length
 same-length c = omega (arith, c .before .before .before .before .write-insertion .kept .0)
 
 returns : tie.Need-returns
 returns c =
-    let s = c .before .before .before .before .before .before .before .before .before .before .before .before .before .before .before .before .before .before .before .before .args in
-    let ready = pair-prepares (s .sizes) (s .t) (s .c) (s .root) (s .least) (s .words .now) (s .first) (s .second) (s .new) _ _ _ _ _ (c .before .before .before .before .before .before .before .before .before .before .before .before .prepare-insertion .ensures) in
-    is-settled _ _ _ _ _ _ _ _ ready _ _ _ _ _ (pair-words (s .sizes) (s .first) (s .second) (c .before .before .before .before .before .before .before .before .before .before .before .before .before .before .before .before .before .before .before .before .pre .parts .sizes .height .0)) (c .before .before .before .before .write-insertion .ensures)
+    let s = c .before .before .before .before .before .before .before .before .before .before .before .before .before .before .before .before .before .before .before .before .before .args in
+    let ready = pair-prepares (s .parts) (s .root) (s .words .now) (s .first) (s .second) (s .new) _ _ _ _ _ (c .before .before .before .before .before .before .before .before .before .before .before .before .prepare-insertion .ensures) in
+    is-settled _ _ _ _ _ _ _ ready _ _ _ _ _ (pair-words (s .parts .sizes) (s .first) (s .second) (c .before .before .before .before .before .before .before .before .before .before .before .before .before .before .before .before .before .before .before .before .before .pre .parts .sizes .height .0)) (c .before .before .before .before .write-insertion .ensures)
 
 pub settle-insertion-spec : {M : Type 1} → statement M
 settle-insertion-spec =

@@ -1,4 +1,5 @@
 use borrow.Author.Needs.{needs}
+use native.Mathlib.Omega.{arith}
 use Rattle.listing.proofs.ListingLaws.{counts-few}
 use Rattle.listing.proofs.are_words_more.Statement.{statement}
 use Rattle.listing.proofs.are_words_more.Tie as tie
@@ -9,7 +10,7 @@ counts-for-requires c κs = search needs
 fetched-for-requires : tie.Need-fetched-for-requires
 fetched-for-requires c κs =
     let s = c .before .args in
-    (c .before .pre .1 .1, rw (c .counts-for .ensures) (counts-few (s .sizes .h) (s .request) (c .before .pre .1 .0)))
+    (c .before .pre .1 .1, rw (c .counts-for .ensures) (let few = counts-few (s .sizes .h) (s .job) (c .before .pre .0, c .before .pre .1 .0) in (few .0, omega arith)))
 
 returns : tie.Need-returns
 returns c = rw (c .fetched-for .ensures, c .before .counts-for .ensures)

@@ -34,12 +34,12 @@ part-sibs-end c = search needs
 
 show-pair-requires : tie.Need-show-pair-requires
 show-pair-requires c κs =
-    let p = c .before .before .before .before .before .before .before .before .before .before .pre in
-    record { sizes = record { height = p .sizes .height; width = p .sizes .width; roots = p .sizes .roots }; ways = p .slots; ones = p .siblings; twos = search needs; alls = search needs; fetched = p .fetched }
+    let p = c .before .before .before .before .before .before .before .before .before .before .before .pre in
+    record { sizes = p .sizes; ways = p .slots; ones = p .siblings; twos = search needs; alls = search needs; fetched = p .fetched }
 
 path-words-requires : tie.Need-path-words-requires
 path-words-requires c κs =
-    c .before .before .before .before .before .before .before .before .before .before .before .before .before .before .before .before .before .before .before .pre .sizes
+    c .before .before .before .before .before .before .before .before .before .before .before .before .before .before .before .before .before .before .before .before .pre .sizes
 
 add-whole : tie.Need-add-whole
 add-whole c = omega (arith, c .path-words .ensures .1)
@@ -52,8 +52,8 @@ part-pair-damaged-start c = search needs
 
 part-pair-damaged-end : tie.Need-part-pair-damaged-end
 part-pair-damaged-end c =
-    let s = c .before .before .before .before .before .before .before .before .before .before .before .before .before .before .before .before .before .before .before .before .args in
-    omega (arith, both-given (s .sizes) (s .first) (s .second) (s .words .now) _ _ (c .before .before .before .before .before .before .before .before .before .before .before .before .before .before .before .before .before .before .before .before .pre) _ (c .path-words .ensures .0))
+    let s = c .before .before .before .before .before .before .before .before .before .before .before .before .before .before .before .before .before .before .before .before .before .args in
+    omega (arith, both-given (s .parts .sizes) (s .first) (s .second) (s .words .now) _ _ (c .before .before .before .before .before .before .before .before .before .before .before .before .before .before .before .before .before .before .before .before .before .pre) _ (c .path-words .ensures .0))
 
 mul-pair-damaged : tie.Need-mul-pair-damaged
 mul-pair-damaged c = omega (arith, c .before .path-words .ensures .1)
@@ -66,16 +66,16 @@ part-pair-damaged-start-2 c = search needs
 
 part-pair-damaged-end-2 : tie.Need-part-pair-damaged-end-2
 part-pair-damaged-end-2 c =
-    let s = c .before .before .before .before .before .before .before .before .before .before .before .before .before .before .before .before .before .before .before .before .before .args in
-    omega (arith, both-given (s .sizes) (s .first) (s .second) (s .words .now) _ _ (c .before .before .before .before .before .before .before .before .before .before .before .before .before .before .before .before .before .before .before .before .before .pre) _ (c .before .path-words .ensures .0))
+    let s = c .before .before .before .before .before .before .before .before .before .before .before .before .before .before .before .before .before .before .before .before .before .before .args in
+    omega (arith, both-given (s .parts .sizes) (s .first) (s .second) (s .words .now) _ _ (c .before .before .before .before .before .before .before .before .before .before .before .before .before .before .before .before .before .before .before .before .before .before .pre) _ (c .before .path-words .ensures .0))
 
 pair-damaged-requires : tie.Need-pair-damaged-requires
 pair-damaged-requires c κs =
-    let s = c .before .before .before .before .before .before .before .before .before .before .before .before .before .before .before .before .before .before .before .before .before .before .before .before .before .args in
+    let s = c .before .before .before .before .before .before .before .before .before .before .before .before .before .before .before .before .before .before .before .before .before .before .before .before .before .before .args in
     let n = c .before .before .before .before .before .path-words .result in
     let e = c .before .before .before .before .before .path-words .ensures .0 in
-    let p = c .before .before .before .before .before .before .before .before .before .before .before .before .before .before .before .before .before .before .before .before .before .before .before .before .before .pre in
-    ((first-room (s .sizes) (s .first) (s .second) (s .words .now) (s .w .now) (s .beside .now) p n e (n - 0) (omega arith), omega (arith, p .siblings, c .before .before .before .before .before .before .before .before .before .before .before .before .before .before .show-pair .kept .1 .0)), ((second-room (s .sizes) (s .first) (s .second) (s .words .now) (s .w .now) (s .beside .now) p n e (n + n - n) (omega arith), search needs), search needs))
+    let p = c .before .before .before .before .before .before .before .before .before .before .before .before .before .before .before .before .before .before .before .before .before .before .before .before .before .before .pre in
+    ((first-room (s .parts .sizes) (s .first) (s .second) (s .words .now) (s .w .now) (s .beside .now) p n e (n - 0) (omega arith), omega (arith, p .siblings, c .before .before .before .before .before .before .before .before .before .before .before .before .before .before .show-pair .kept .1 .0)), ((second-room (s .parts .sizes) (s .first) (s .second) (s .words .now) (s .w .now) (s .beside .now) p n e (n + n - n) (omega arith), search needs), search needs))
 
 same-length : tie.Need-same-length
 same-length c =
@@ -87,9 +87,9 @@ same-length-2 c =
 
 returns : tie.Need-returns
 returns c =
-    let s = c .before .before .before .before .before .before .before .before .before .before .before .before .before .before .before .before .before .before .before .before .before .before .before .before .before .before .before .before .args in
+    let s = c .before .before .before .before .before .before .before .before .before .before .before .before .before .before .before .before .before .before .before .before .before .before .before .before .before .before .before .before .before .args in
     let n = c .before .before .before .before .before .before .before .before .path-words .result in
-    pair-looks (s .sizes) (s .first) (s .second) (s .words .now) (s .w .now) (s .beside .now) (c .before .before .before .before .before .before .before .before .before .before .before .before .before .before .before .before .before .before .before .before .before .before .before .before .before .before .before .before .pre) n (c .before .before .before .before .before .before .before .before .path-words .ensures .0) (s .root) _ _ _ _ _ (c .before .before .before .before .before .before .before .before .before .before .before .before .before .before .before .before .before .show-pair .ensures) (s .t) (s .least) (n - 0) (n + n - n) _ (omega arith) (omega arith) (c .before .before .pair-damaged .ensures)
+    pair-looks (s .parts .sizes) (s .first) (s .second) (s .words .now) (s .w .now) (s .beside .now) (c .before .before .before .before .before .before .before .before .before .before .before .before .before .before .before .before .before .before .before .before .before .before .before .before .before .before .before .before .before .pre) n (c .before .before .before .before .before .before .before .before .path-words .ensures .0) (s .root) _ _ _ _ _ (c .before .before .before .before .before .before .before .before .before .before .before .before .before .before .before .before .before .show-pair .ensures) (s .parts .t) (s .parts .c) (s .parts .least) (n - 0) (n + n - n) _ (omega arith) (omega arith) (c .before .before .pair-damaged .ensures)
 
 pub look-pair-spec : {M : Type 1} → statement M
 look-pair-spec =

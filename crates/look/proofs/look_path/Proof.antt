@@ -7,12 +7,12 @@ use Rattle.look.proofs.look_path.Tie as tie
 
 show-path-requires : tie.Need-show-path-requires
 show-path-requires c κs =
-    let p = c .before .before .before .before .before .pre in
-    record { sizes = record { height = p .sizes .height; width = p .sizes .width; roots = p .sizes .roots }; slots = p .slots; siblings = p .siblings; fetched = p .fetched }
+    let p = c .before .before .before .before .before .before .pre in
+    record { sizes = p .sizes; slots = p .slots; siblings = p .siblings; fetched = p .fetched }
 
 path-words-requires : tie.Need-path-words-requires
 path-words-requires c κs =
-    c .before .before .before .before .before .before .before .before .before .before .pre .sizes
+    c .before .before .before .before .before .before .before .before .before .before .before .pre .sizes
 
 sub-path-damaged : tie.Need-sub-path-damaged
 sub-path-damaged c = search needs
@@ -22,15 +22,15 @@ part-path-damaged-start c = search needs
 
 part-path-damaged-end : tie.Need-part-path-damaged-end
 part-path-damaged-end c =
-    let s = c .before .before .before .before .before .before .before .before .before .before .before .args in
-    omega (arith, path-given (s .sizes) (s .label) (s .words .now) (s .w .now) (s .sibs .now) (c .path-words .result) (c .before .before .before .before .before .before .before .before .before .before .before .pre) (c .path-words .ensures .0))
+    let s = c .before .before .before .before .before .before .before .before .before .before .before .before .args in
+    omega (arith, path-given (s .parts .sizes) (s .leaf) (s .words .now) (s .w .now) (s .sibs .now) (c .path-words .result) (c .before .before .before .before .before .before .before .before .before .before .before .before .pre) (c .path-words .ensures .0))
 
 path-damaged-requires : tie.Need-path-damaged-requires
 path-damaged-requires c κs =
-    let s = c .before .before .before .before .before .before .before .before .before .before .before .before .before .before .args in
+    let s = c .before .before .before .before .before .before .before .before .before .before .before .before .before .before .before .args in
     let n = c .before .before .before .path-words .result in
-    let p = c .before .before .before .before .before .before .before .before .before .before .before .before .before .before .pre in
-    (lent-room (s .sizes) (s .label) (s .words .now) (s .w .now) (s .sibs .now) n (n - 0) p (c .before .before .before .path-words .ensures .0) (omega arith), (omega (arith, p .siblings, c .before .before .before .before .before .before .before .before .show-path .kept .1 .0), omega (arith, p .slots, c .before .before .before .before .before .before .before .before .show-path .kept .0)))
+    let p = c .before .before .before .before .before .before .before .before .before .before .before .before .before .before .before .pre in
+    (lent-room (s .parts .sizes) (s .leaf) (s .words .now) (s .w .now) (s .sibs .now) n (n - 0) p (c .before .before .before .path-words .ensures .0) (omega arith), (omega (arith, p .siblings, c .before .before .before .before .before .before .before .before .show-path .kept .1 .0), omega (arith, p .slots, c .before .before .before .before .before .before .before .before .show-path .kept .0)))
 
 same-length : tie.Need-same-length
 same-length c =
@@ -42,9 +42,9 @@ same-length-2 c =
 
 returns : tie.Need-returns
 returns c =
-    let s = c .before .before .before .before .before .before .before .before .before .before .before .before .before .before .before .args in
+    let s = c .before .before .before .before .before .before .before .before .before .before .before .before .before .before .before .before .args in
     let n = c .before .before .before .before .path-words .result in
-    path-looks (s .sizes) (s .label) (s .words .now) (s .w .now) (s .sibs .now) (c .before .before .before .before .before .before .before .before .before .before .before .before .before .before .before .pre) n (n - 0) (c .before .before .before .before .path-words .ensures .0) (omega arith) (s .root) _ _ _ (c .before .before .before .before .before .before .before .before .before .show-path .ensures) (s .t) (s .least) _ (c .path-damaged .ensures)
+    path-looks (s .parts .sizes) (s .leaf) (s .words .now) (s .w .now) (s .sibs .now) (c .before .before .before .before .before .before .before .before .before .before .before .before .before .before .before .before .pre) n (n - 0) (c .before .before .before .before .path-words .ensures .0) (omega arith) (s .root) _ _ _ (c .before .before .before .before .before .before .before .before .before .show-path .ensures) (s .parts .t) (s .parts .c) (s .parts .least) _ (c .path-damaged .ensures)
 
 pub look-path-spec : {M : Type 1} → statement M
 look-path-spec =

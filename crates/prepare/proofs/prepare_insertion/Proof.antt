@@ -31,7 +31,7 @@ part-sibs-end c = search needs
 
 look-pair-requires : tie.Need-look-pair-requires
 look-pair-requires c κs =
-    let (room, rest) = c .before .before .before .before .before .before .before .before .pre in
+    let (room, rest) = c .before .before .before .before .before .before .before .before .before .pre in
     record { sizes = room .parts .sizes; lower = room .lower; upper = room .upper; fetched = room .fetched; slots = search needs; siblings = search needs }
 
 unsettled-requires : tie.Need-unsettled-requires
@@ -39,63 +39,39 @@ unsettled-requires c κs = search needs
 
 returns : tie.Need-returns
 returns c =
-    let s = c .before .before .before .before .before .before .before .before .before .before .before .before .before .before .before .before .before .args in
-    fetched-bad (s .sizes) (s .t) (s .c) (s .root) (s .least) (s .words .now) (s .first) (s .second) (s .new) _ _ _ (c .before .before .before .before .before .before .before .before .look-pair .ensures) (s .one .now) (s .two .now) _ (c .before .before .before .if1 .taken) (c .unsettled .ensures)
+    let s = c .before .before .before .before .before .before .before .before .before .before .before .before .before .before .before .before .before .before .args in
+    fetched-bad (s .parts) (s .root) (s .words .now) (s .first) (s .second) (s .new) _ _ _ (c .before .before .before .before .before .before .before .before .look-pair .ensures) (s .one .now) (s .two .now) _ (c .before .before .before .if1 .taken) (c .unsettled .ensures)
 
 work-pair-requires : tie.Need-work-pair-requires
 work-pair-requires c κs =
-    let (room, (lower, upper)) = c .before .before .before .before .before .before .before .before .before .before .before .before .before .before .before .before .before .pre in
-    record { one = record { sizes = record { height = room .parts .sizes .height; width = room .parts .sizes .width; roots = room .parts .sizes .roots }; leaf = room .lower; buckets = lower; slots = c .before .before .before .before .before .before .before .before .look-pair .kept .1 .0 ∙ search needs; siblings = search needs }; two = record { sizes = record { height = room .parts .sizes .height; width = room .parts .sizes .width; roots = room .parts .sizes .roots }; leaf = room .upper; buckets = upper; slots = c .before .before .before .before .before .before .before .before .look-pair .kept .1 .0 ∙ search needs; siblings = search needs }; fetched = room .fetched }
+    let (room, (lower, upper)) = c .before .before .before .before .before .before .before .before .before .before .before .before .before .before .before .before .before .before .pre in
+    record { one = record { sizes = room .parts .sizes; leaf = room .lower; buckets = lower; slots = c .before .before .before .before .before .before .before .before .look-pair .kept .1 .0 ∙ search needs; siblings = search needs }; two = record { sizes = room .parts .sizes; leaf = room .upper; buckets = upper; slots = c .before .before .before .before .before .before .before .before .look-pair .kept .1 .0 ∙ search needs; siblings = search needs }; fetched = room .fetched }
 
 save-root-requires : tie.Need-save-root-requires
 save-root-requires c κs =
     let k = c .before .before .before .before .before .before .before .before .work-pair .kept .0 ∙ c .before .before .before .before .before .before .before .before .before .before .before .before .before .before .before .before .before .look-pair .kept .1 .0 in
-    (c .before .before .before .before .before .before .before .before .before .before .before .before .before .before .before .before .before .before .before .before .before .before .before .before .before .before .pre .0 .parts .sizes .roots, search needs)
+    (c .before .before .before .before .before .before .before .before .before .before .before .before .before .before .before .before .before .before .before .before .before .before .before .before .before .before .before .pre .0 .parts .sizes .roots, search needs)
 
-add-judged : tie.Need-add-judged
-add-judged c =
-    omega (arith, c .before .before .before .before .before .before .before .before .before .before .before .before .before .before .before .before .before .before .before .before .before .before .before .before .before .before .before .before .pre .0 .parts .counts)
-
-add-judged-2 : tie.Need-add-judged-2
-add-judged-2 c =
-    omega (arith, c .before .before .before .before .before .before .before .before .before .before .before .before .before .before .before .before .before .before .before .before .before .before .before .before .before .before .before .before .pre .0 .parts .counts)
+add-t43 : tie.Need-add-t43
+add-t43 c = omega (arith, c .before .before .before .before .before .before .before .before .before .before .before .before .before .before .before .before .before .before .before .before .before .before .before .before .before .before .before .before .before .before .pre .0 .parts .counts)
 
 judged-requires : tie.Need-judged-requires
-judged-requires c κs = search needs
+judged-requires c κs = c .before .before .before .before .before .before .before .before .before .before .before .before .before .before .before .before .before .before .before .before .before .before .before .before .before .before .before .before .before .before .pre .0 .parts .counts .0
 
 same-length : tie.Need-same-length
 same-length c =
-    omega (arith, c .before .before .before .before .before .before .before .before .before .before .before .work-pair .kept .1 .1 .0)
+    omega (arith, c .before .before .before .before .before .before .before .before .before .before .before .before .work-pair .kept .1 .1 .0)
 
 same-length-2 : tie.Need-same-length-2
 same-length-2 c =
-    omega (arith, c .before .before .before .before .before .before .before .before .before .before .before .work-pair .kept .1 .1 .1 .0)
+    omega (arith, c .before .before .before .before .before .before .before .before .before .before .before .before .work-pair .kept .1 .1 .1 .0)
 
 returns-2 : tie.Need-returns-2
 returns-2 c =
-    let s = c .before .before .before .before .before .before .before .before .before .before .before .before .before .before .before .before .before .before .before .before .before .before .before .before .before .before .before .before .before .args in
-    left-judged (s .sizes) (s .t) (s .c) (s .root) (s .least) (s .words .now) (s .first) (s .second) (s .new) _ _ _ (c .before .before .before .before .before .before .before .before .before .before .before .before .before .before .before .before .before .before .before .before .look-pair .ensures) (c .before .before .before .before .before .before .before .before .before .before .before .before .before .before .before .before .before .before .before .before .before .before .before .before .before .before .before .before .before .pre .0 .parts .sizes .height .0) _ (s .one .now) (s .two .now) _ _ _ (c .before .before .before .before .before .before .before .before .before .before .before .work-pair .ensures) _ (c .before .before .save-root .ensures) (c .before .before .before .before .before .before .before .before .before .before .before .before .before .before .before .if1 .left) _ (c .judged .ensures)
+    let s = c .before .before .before .before .before .before .before .before .before .before .before .before .before .before .before .before .before .before .before .before .before .before .before .before .before .before .before .before .before .before .before .args in
+    left-judged (s .parts) (s .root) (s .words .now) (s .first) (s .second) (s .new) _ _ _ (c .before .before .before .before .before .before .before .before .before .before .before .before .before .before .before .before .before .before .before .before .before .look-pair .ensures) (c .before .before .before .before .before .before .before .before .before .before .before .before .before .before .before .before .before .before .before .before .before .before .before .before .before .before .before .before .before .before .before .pre .0 .parts .sizes .height .0) _ (s .one .now) (s .two .now) _ _ _ (c .before .before .before .before .before .before .before .before .before .before .before .before .work-pair .ensures) _ (c .before .before .before .save-root .ensures) (c .before .before .before .before .before .before .before .before .before .before .before .before .before .before .before .before .if1 .left) _ (c .judged .ensures)
 
 pub prepare-insertion-spec : {M : Type 1} → statement M
 prepare-insertion-spec =
     tie.close
-    (tie.spec
-    way-words-requires
-    mul-siblings
-    sub-w
-    part-way-start
-    part-way-end
-    sub-beside
-    part-sibs-start
-    part-sibs-end
-    look-pair-requires
-    unsettled-requires
-    returns
-    work-pair-requires
-    save-root-requires
-    add-judged
-    add-judged-2
-    judged-requires
-    same-length
-    same-length-2
-    returns-2)
+    (tie.spec way-words-requires mul-siblings sub-w part-way-start part-way-end sub-beside part-sibs-start part-sibs-end look-pair-requires unsettled-requires returns work-pair-requires save-root-requires add-t43 judged-requires same-length same-length-2 returns-2)

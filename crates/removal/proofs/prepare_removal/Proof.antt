@@ -32,7 +32,7 @@ part-beside-end c = search needs
 
 look-path-requires : tie.Need-look-path-requires
 look-path-requires c κs =
-    let (room, rest) = c .before .before .before .before .before .before .before .pre in
+    let (room, rest) = c .before .before .before .before .before .before .before .before .pre in
     record { sizes = room .parts .sizes; leaf = room .leaf; fetched = room .fetched; slots = search needs; siblings = search needs }
 
 unsettled-requires : tie.Need-unsettled-requires
@@ -40,23 +40,19 @@ unsettled-requires c κs = search needs
 
 returns : tie.Need-returns
 returns c =
-    let s = c .before .before .before .before .before .before .before .before .before .before .before .before .before .before .before .before .args in
-    fetched-bad (s .sizes) (s .t) (s .c) (s .root) (s .least) (s .words .now) (s .label) (named (s .label) (s .stamp)) _ _ _ (c .before .before .before .before .before .before .before .before .look-path .ensures) _ _ (c .before .before .before .if1 .taken) (c .unsettled .ensures)
+    let s = c .before .before .before .before .before .before .before .before .before .before .before .before .before .before .before .before .before .args in
+    fetched-bad (s .parts) (s .root) (s .words .now) (s .leaf) (named (s .label) (s .stamp)) _ _ _ (c .before .before .before .before .before .before .before .before .look-path .ensures) _ _ (c .before .before .before .if1 .taken) (c .unsettled .ensures)
 
 remove-path-requires : tie.Need-remove-path-requires
 remove-path-requires c κs =
-    let (room, path) = c .before .before .before .before .before .before .before .before .before .before .before .before .before .before .before .pre in
-    record { sizes = record { height = room .parts .sizes .height; width = room .parts .sizes .width; roots = room .parts .sizes .roots }; leaf = room .leaf; buckets = path; slots = c .before .before .before .before .before .before .before .look-path .kept .1 .0 ∙ search needs; siblings = search needs }
+    let (room, path) = c .before .before .before .before .before .before .before .before .before .before .before .before .before .before .before .before .pre in
+    record { sizes = room .parts .sizes; leaf = room .leaf; buckets = path; slots = c .before .before .before .before .before .before .before .look-path .kept .1 .0 ∙ search needs; siblings = search needs }
 
 live-after-requires : tie.Need-live-after-requires
 live-after-requires c κs = search needs
 
-add-judged : tie.Need-add-judged
-add-judged c =
-    omega (arith, c .before .before .before .before .before .before .before .before .before .before .before .before .before .before .before .before .before .before .before .before .before .before .before .pre .0 .parts .counts)
-
 judged-requires : tie.Need-judged-requires
-judged-requires c κs = search needs
+judged-requires c κs = c .before .before .before .before .before .before .before .before .before .before .before .before .before .before .before .before .before .before .before .before .before .before .before .before .pre .0 .parts .counts .0
 
 same-length : tie.Need-same-length
 same-length c =
@@ -64,27 +60,10 @@ same-length c =
 
 returns-2 : tie.Need-returns-2
 returns-2 c =
-    let s = c .before .before .before .before .before .before .before .before .before .before .before .before .before .before .before .before .before .before .before .before .before .before .before .before .args in
-    left-judged (s .sizes) (s .t) (s .c) (s .root) (s .least) (s .words .now) (s .label) (named (s .label) (s .stamp)) _ _ _ (c .before .before .before .before .before .before .before .before .before .before .before .before .before .before .before .before .look-path .ensures) _ _ (c .before .before .before .before .before .before .before .before .remove-path .ensures) _ (c .before .live-after .ensures) (c .before .before .before .before .before .before .before .before .before .before .before .if1 .left) _ (c .judged .ensures)
+    let s = c .before .before .before .before .before .before .before .before .before .before .before .before .before .before .before .before .before .before .before .before .before .before .before .before .before .args in
+    left-judged (s .parts) (s .root) (s .words .now) (s .leaf) (named (s .label) (s .stamp)) _ _ _ (c .before .before .before .before .before .before .before .before .before .before .before .before .before .before .before .before .look-path .ensures) _ _ (c .before .before .before .before .before .before .before .before .remove-path .ensures) _ (c .before .live-after .ensures) (c .before .before .before .before .before .before .before .before .before .before .before .if1 .left) _ (c .judged .ensures)
 
 pub prepare-removal-spec : {M : Type 1} → statement M
 prepare-removal-spec =
     tie.close
-    (tie.spec
-    way-words-requires
-    mul-siblings
-    sub-w
-    part-way-start
-    part-way-end
-    sub-sibs
-    part-beside-start
-    part-beside-end
-    look-path-requires
-    unsettled-requires
-    returns
-    remove-path-requires
-    live-after-requires
-    add-judged
-    judged-requires
-    same-length
-    returns-2)
+    (tie.spec way-words-requires mul-siblings sub-w part-way-start part-way-end sub-sibs part-beside-start part-beside-end look-path-requires unsettled-requires returns remove-path-requires live-after-requires judged-requires same-length returns-2)

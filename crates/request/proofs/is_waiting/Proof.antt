@@ -9,12 +9,6 @@ enum-told c = search needs
 enum-told-2 : tie.Need-enum-told-2
 enum-told-2 c = search needs
 
-enum-told-3 : tie.Need-enum-told-3
-enum-told-3 c = search needs
-
-enum-told-4 : tie.Need-enum-told-4
-enum-told-4 c = search needs
-
 returns : tie.Need-returns
 unfolding waits
 returns c = search needs
@@ -23,15 +17,5 @@ returns-2 : tie.Need-returns-2
 unfolding waits
 returns-2 c = search needs
 
-returns-3 : tie.Need-returns-3
-unfolding waits
-returns-3 c = search needs
-
-returns-4 : tie.Need-returns-4
-unfolding waits
-returns-4 c = search needs
-
 pub is-waiting-spec : {M : Type 1} → statement M
-is-waiting-spec =
-    tie.close
-    (tie.spec enum-told enum-told-2 enum-told-3 enum-told-4 returns returns-2 returns-3 returns-4)
+is-waiting-spec = tie.close (tie.spec enum-told enum-told-2 returns returns-2)

@@ -40,7 +40,7 @@ returns-6 c =
 returns-7 : tie.Need-returns-7
 unfolding firstGiven insertRows
 returns-7 c =
-    rw (ne-eqb _ _ (c .before .before .before .before .before .before .before .before .before .before .before .if1 .left), ne-eqb _ _ (c .before .before .before .before .before .before .before .before .before .before .if2 .left), ← c .before .before .before .before .before .before .before .before .before .leaves .ensures, lt-leb _ _ (c .before .before .before .before .before .before .before .if3 .left), lt-leb _ _ (c .before .before .before .before .before .if4 .left), le-ltb _ _ (c .before .before .before .if5 .left), lt-leb _ _ (c .before .if6 .left), eq-eqb _ _ (c .if7 .taken))
+    rw (ne-eqb _ _ (c .before .before .before .before .before .before .before .before .before .before .before .before .if1 .left), ne-eqb _ _ (c .before .before .before .before .before .before .before .before .before .before .before .if2 .left), ← c .before .before .before .before .before .before .before .before .before .before .leaves .ensures, lt-leb _ _ (c .before .before .before .before .before .before .before .before .if3 .left), lt-leb _ _ (c .before .before .before .before .before .before .if4 .left), le-ltb _ _ (c .before .before .before .before .if5 .left), lt-leb _ _ (c .before .before .if6 .left), eq-eqb _ _ (c .if7 .taken))
 
 all-real-requires : tie.Need-all-real-requires
 all-real-requires c κs = search needs
@@ -48,25 +48,14 @@ all-real-requires c κs = search needs
 returns-8 : tie.Need-returns-8
 unfolding firstGiven insertRows
 returns-8 c =
-    rw (ne-eqb _ _ (c .before .before .before .before .before .before .before .before .before .before .before .before .before .if1 .left), ne-eqb _ _ (c .before .before .before .before .before .before .before .before .before .before .before .before .if2 .left), ← c .before .before .before .before .before .before .before .before .before .before .before .leaves .ensures, lt-leb _ _ (c .before .before .before .before .before .before .before .before .before .if3 .left), lt-leb _ _ (c .before .before .before .before .before .before .before .if4 .left), le-ltb _ _ (c .before .before .before .before .before .if5 .left), lt-leb _ _ (c .before .before .before .if6 .left), ne-eqb _ _ (c .before .before .if7 .left), sym (c .before .all-real .ensures) ∙ c .if8 .taken)
+    rw (ne-eqb _ _ (c .before .before .before .before .before .before .before .before .before .before .before .before .before .before .if1 .left), ne-eqb _ _ (c .before .before .before .before .before .before .before .before .before .before .before .before .before .if2 .left), ← c .before .before .before .before .before .before .before .before .before .before .before .before .leaves .ensures, lt-leb _ _ (c .before .before .before .before .before .before .before .before .before .before .if3 .left), lt-leb _ _ (c .before .before .before .before .before .before .before .before .if4 .left), le-ltb _ _ (c .before .before .before .before .before .before .if5 .left), lt-leb _ _ (c .before .before .before .before .if6 .left), ne-eqb _ _ (c .before .before .if7 .left), sym (c .before .all-real .ensures) ∙ c .if8 .taken)
 
 returns-9 : tie.Need-returns-9
 unfolding firstGiven insertRows
 returns-9 c =
-    rw (ne-eqb _ _ (c .before .before .before .before .before .before .before .before .before .before .before .before .before .if1 .left), ne-eqb _ _ (c .before .before .before .before .before .before .before .before .before .before .before .before .if2 .left), ← c .before .before .before .before .before .before .before .before .before .before .before .leaves .ensures, lt-leb _ _ (c .before .before .before .before .before .before .before .before .before .if3 .left), lt-leb _ _ (c .before .before .before .before .before .before .before .if4 .left), le-ltb _ _ (c .before .before .before .before .before .if5 .left), lt-leb _ _ (c .before .before .before .if6 .left), ne-eqb _ _ (c .before .before .if7 .left), sym (c .before .all-real .ensures) ∙ c .if8 .left)
+    rw (ne-eqb _ _ (c .before .before .before .before .before .before .before .before .before .before .before .before .before .before .if1 .left), ne-eqb _ _ (c .before .before .before .before .before .before .before .before .before .before .before .before .before .if2 .left), ← c .before .before .before .before .before .before .before .before .before .before .before .before .leaves .ensures, lt-leb _ _ (c .before .before .before .before .before .before .before .before .before .before .if3 .left), lt-leb _ _ (c .before .before .before .before .before .before .before .before .if4 .left), le-ltb _ _ (c .before .before .before .before .before .before .if5 .left), lt-leb _ _ (c .before .before .before .before .if6 .left), ne-eqb _ _ (c .before .before .if7 .left), sym (c .before .all-real .ensures) ∙ c .if8 .left)
 
 pub why-insert-spec : {M : Type 1} → statement M
 why-insert-spec =
     tie.close
-    (tie.spec
-    returns
-    returns-2
-    leaves-requires
-    returns-3
-    returns-4
-    returns-5
-    returns-6
-    returns-7
-    all-real-requires
-    returns-8
-    returns-9)
+    (tie.spec returns returns-2 leaves-requires returns-3 returns-4 returns-5 returns-6 returns-7 all-real-requires returns-8 returns-9)

@@ -25,7 +25,7 @@ returns : tie.Need-returns
 returns c =
     let s = c .before .before .before .before .before .args in
     let long : length (s .root) ≡ 64 = search (needs, length-mapped) in
-    c .are-parts-bad .ensures ∙ ap (λ (l : List Record). badParts (s .sizes) (s .t) (s .c) l (s .least)) (ap records (c .before .before .before .load-root .ensures) ∙ root-laid _ (s .root) long (search needs))
+    c .are-parts-bad .ensures ∙ ap (λ (l : List Record). badParts (s .parts) l) (ap records (c .before .before .before .load-root .ensures) ∙ root-laid _ (s .root) long (search needs))
 
 pub comes-out-bad-spec : {M : Type 1} → statement M
 comes-out-bad-spec =

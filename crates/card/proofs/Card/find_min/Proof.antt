@@ -1,31 +1,24 @@
 use borrow.Author.Needs.{needs}
+use mathlib.Core.Path.{refl}
 use Rattle.lists.specs.BucketList.{wordsMoved, sum}
-use Rattle.card.proofs.CheckLaws.{min-refused, min-empty, min-done}
+use Rattle.card.specs.Calls.{foundMin}
+use Rattle.card.proofs.AnswerLaws.{told-refused, told-done}
 use Rattle.card.proofs.Card.find_min.Statement.{statement}
 use Rattle.card.proofs.Card.find_min.Tie as tie
 
-why-busy-requires : tie.Need-why-busy-requires
-why-busy-requires c κs = search needs
+why-requires : tie.Need-why-requires
+why-requires c κs = search needs
 
 refuse-requires : tie.Need-refuse-requires
 refuse-requires c κs = search needs
 
 returns : tie.Need-returns
 returns c =
-    rw (c .refuse .ensures) (min-refused (c .before .before .before .before .before .args .self) _ (c .before .before .why-busy .ensures) (c .before .if1 .taken))
-
-refuse-requires-2 : tie.Need-refuse-requires-2
-refuse-requires-2 c κs = search needs
+    rw (c .refuse .ensures) (told-refused (c .before .before .before .args .self) _ _ (foundMin (c .before .before .before .args .self)) (c .before .before .why .ensures) (c .before .if1 .taken))
 
 returns-2 : tie.Need-returns-2
-returns-2 c =
-    rw (c .refuse2 .ensures) (min-empty (c .before .before .before .before .before .before .before .args .self) _ (c .before .before .before .before .why-busy .ensures) (c .before .before .before .if1 .left) (c .before .if2 .taken))
-
-returns-3 : tie.Need-returns-3
 unfolding wordsMoved sum
-returns-3 c =
-    min-done (c .before .before .before .before .before .before .args .self) _ (c .before .before .before .why-busy .ensures) (c .before .before .if1 .left) (c .if2 .left)
+returns-2 c = told-done (c .before .before .before .args .self) _ _ (foundMin (c .before .before .before .args .self)) (c .before .before .why .ensures) (c .before .if1 .left) refl
 
 pub find-min-spec : {M : Type 1} → statement M
-find-min-spec =
-    tie.close (tie.spec why-busy-requires refuse-requires returns refuse-requires-2 returns-2 returns-3)
+find-min-spec = tie.close (tie.spec why-requires refuse-requires returns returns-2)

@@ -1,7 +1,8 @@
 -- `nwidarap_find_min` meets its contract: as the card's own call on the card that is held. Assumes nothing.
 use borrow.Author.Needs.{needs}
 use Rattle.card.specs.Calls.{minTable, foundMin}
-use Rattle.held.proofs.HeldLaws.{none-least}
+use Rattle.checks.specs.declared.Call.the-variants.{Min}
+use Rattle.held.proofs.HeldLaws.{none-called}
 use Rattle.driver.proofs.DrivenLaws.{held-said}
 use Rattle.driver.proofs.requests.nwidarap_find_min.Statement.{statement}
 use Rattle.driver.proofs.requests.nwidarap_find_min.Tie as tie
@@ -17,7 +18,7 @@ say-requires c κs = search needs
 
 returns : tie.Need-returns
 returns c =
-    held-said (c .before .before .before .before .args .card .now) minTable none-least foundMin _ _ _ _ (c .before .before .before .card-of .ensures) (c .before .before .find-min .ensures) (c .say .ensures)
+    held-said (c .before .before .before .before .args .card .now) minTable (none-called Min) foundMin _ _ _ _ (c .before .before .before .card-of .ensures) (c .before .before .find-min .ensures) (c .say .ensures)
 
 pub nwidarap-find-min-spec : {M : Type 1} → statement M
 nwidarap-find-min-spec =

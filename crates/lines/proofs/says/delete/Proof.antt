@@ -16,11 +16,11 @@ numbers-requires c κs = search needs
 returns : tie.Need-returns
 returns c = unsaid deleteKind _ _ _ _ (c .before .before .numbers .ensures) refl (not-true _ (c .if1 .taken))
 
-array-read-t10 : tie.Need-array-read-t10
-array-read-t10 c = search needs
+array-read-t11 : tie.Need-array-read-t11
+array-read-t11 c = search needs
 
-array-read-t14 : tie.Need-array-read-t14
-array-read-t14 c = search needs
+array-read-t15 : tie.Need-array-read-t15
+array-read-t15 c = search needs
 
 returns-2 : tie.Need-returns-2
 returns-2 c = said deleteKind _ _ _ _ (c .before .before .numbers .ensures) refl (not-false _ (c .if1 .left))
@@ -32,6 +32,6 @@ delete-spec =
     slice-aggregate-numbers
     numbers-requires
     returns
-    array-read-t10
-    array-read-t14
+    array-read-t11
+    array-read-t15
     returns-2)

@@ -16,20 +16,20 @@ numbers-requires c κs = search needs
 returns : tie.Need-returns
 returns c = unsaid insertKind _ _ _ _ (c .before .before .numbers .ensures) refl (not-true _ (c .if1 .taken))
 
-array-read-t10 : tie.Need-array-read-t10
-array-read-t10 c = search needs
+array-read-t11 : tie.Need-array-read-t11
+array-read-t11 c = search needs
 
-array-read-t13 : tie.Need-array-read-t13
-array-read-t13 c = search needs
+array-read-t14 : tie.Need-array-read-t14
+array-read-t14 c = search needs
 
-array-read-t16 : tie.Need-array-read-t16
-array-read-t16 c = search needs
+array-read-t17 : tie.Need-array-read-t17
+array-read-t17 c = search needs
 
-array-read-t20 : tie.Need-array-read-t20
-array-read-t20 c = search needs
+array-read-t21 : tie.Need-array-read-t21
+array-read-t21 c = search needs
 
-array-read-t24 : tie.Need-array-read-t24
-array-read-t24 c = search needs
+array-read-t25 : tie.Need-array-read-t25
+array-read-t25 c = search needs
 
 returns-2 : tie.Need-returns-2
 returns-2 c = said insertKind _ _ _ _ (c .before .before .numbers .ensures) refl (not-false _ (c .if1 .left))
@@ -41,9 +41,9 @@ insert-spec =
     slice-aggregate-numbers
     numbers-requires
     returns
-    array-read-t10
-    array-read-t13
-    array-read-t16
-    array-read-t20
-    array-read-t24
+    array-read-t11
+    array-read-t14
+    array-read-t17
+    array-read-t21
+    array-read-t25
     returns-2)
