@@ -26,7 +26,8 @@ use Rattle.request.specs.Tables.{badLabel, insertRows, extractRows, deleteRows,
 use Rattle.request.specs.Job.{jobOf}
 use Rattle.request.proofs.RequestLaws.{request-numbered}
 use Rattle.listing.specs.Listing.{listFor, placesAsked, leavesWithin, Listable}
-use Rattle.judge.specs.BadParts.{stampOf, oddLeast}
+use Rattle.parts.specs.Parts.{ruleOf}
+use Rattle.judge.specs.BadParts.{oddLeast}
 use Rattle.checks.specs.Checks.{busyRows, callRows}
 use Rattle.checks.proofs.CheckLaws.{begin-fault, begin-room}
 use Rattle.card.specs.declared.Card.{Card}
@@ -115,7 +116,7 @@ extractable k e =
 pub record Deletable (k : Card) (l : Leaf) (s : Stamp) : Type 0 where
   pub time : k .t ≡ k .sizes .t → ⊥
   pub label : l .0 < leavesIn k
-  pub stamp : known (stampOf (k .t)) s ≡ true
+  pub stamp : known (ruleOf (partsOf k)) s ≡ true
 
 pub deletable : (k : Card) (label : Leaf) (stamp : Stamp) → firstGiven (requestTable k (Delete label stamp)) ≡ 0
     → Deletable k label stamp
@@ -127,7 +128,7 @@ deletable k label stamp e =
     record { time = eqb-false _ _ (a .0); label = leb-false _ _ (b .0); stamp = not-false _ (c .0) }
 
 -- the root's least record of a good card with live events is proper
-pub least-proper : (k : Card) → Good k → (k .c ≡ 0 → ⊥) → isProper (leavesIn k) (stampOf (k .t)) (k .least) ≡ true
+pub least-proper : (k : Card) → Good k → (k .c ≡ 0 → ⊥) → isProper (ruleOf (partsOf k)) (k .least) ≡ true
 unfolding oddLeast mayStand
 least-proper k g h = elim (dichotomy (isDummy (k .least))) [
   | inl f ↦
@@ -143,7 +144,7 @@ pub leaves-within : (k : Card) (r : Request) → Good k → firstGiven (requestT
 leaves-within k (Insert key value label first second) g e =
     let d = insertable k key value label first second e in
     (omega (arith, d .first), d .second .1)
-leaves-within k Extract g e = proper-true _ _ _ (least-proper k g (extractable k e .some)) .label
+leaves-within k Extract g e = proper-true _ _ (least-proper k g (extractable k e .some)) .label
 leaves-within k (Delete label stamp) g e = deletable k label stamp e .label
 
 pub listable : (k : Card) (r : Request) (room : ℕ) → Accepted k r room → Listable (k .sizes) (jobOf (partsOf k) r) room

@@ -8,7 +8,7 @@ use lib.ListN.{take, drop, replicate}
 use Rattle.record.specs.declared.Leaf.{Leaf}
 use Rattle.record.specs.declared.Stamp.{Stamp}
 use Rattle.record.specs.declared.Record.{Record}
-use Rattle.record.specs.Standing.{dummy, isDummy, mayStand}
+use Rattle.record.specs.Standing.{dummy, isDummy, ruleFor, mayStand}
 use Rattle.record.specs.Many.{every, reals, stampTwice}
 use Rattle.record.proofs.StandingLaws.{is-dummy, dummy-stands}
 use Rattle.path.specs.declared.sizes.Sizes.{Sizes}
@@ -62,7 +62,7 @@ fresh-good s h =
         sizes = h;
         spent = omega arith;
         live = (omega arith, omega arith);
-        slots = rw (slots .1) (every-dummies (mayStand (2 ^ s .h) (record { 0 = 0 })) (dummy-stands (2 ^ s .h) (record { 0 = 0 })) (slots .0));
+        slots = rw (slots .1) (every-dummies (mayStand (ruleFor (2 ^ s .h) 0)) (dummy-stands (ruleFor (2 ^ s .h) 0)) (slots .0));
         past = rw (past .1) (every-dummies isDummy is-dummy (past .0));
         stamps = rw (slots .1) (stamps-dummies (slots .0));
         few = rw (slots .1, reals-dummies) (omega arith);

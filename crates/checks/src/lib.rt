@@ -134,7 +134,7 @@ fn why_call(root: &[u64], parts: Parts, waiting: Waiting, call: Call) -> u64
 }
 
 // For crates above: why a call is refused. A finish may still be refused with 12, once what was fetched is looked at.
-pub fn why(root: [Record; 64], parts: Parts, waiting: Waiting, call: Call) -> u64
+pub fn why(root: [Record; ROOT_PLACES], parts: Parts, waiting: Waiting, call: Call) -> u64
     ensures { λ n. ⌜ n ≡ firstGiven (callRows (badWith parts root waiting) parts root waiting call) ⌝ }
 {
     let mut places = [0u64; ROOT_WORDS];

@@ -12,15 +12,14 @@ use lib.ListN.{length, take}
 use borrow.Author.Tests.{ltb-true, lt-ltb}
 use Rattle.record.specs.declared.Bucket.{Bucket}
 use Rattle.record.specs.declared.Leaf.{Leaf}
-use Rattle.record.specs.declared.Stamp.{Stamp}
 use Rattle.record.specs.declared.Record.{Record}
+use Rattle.record.specs.declared.Rule.{Rule}
 use Rattle.record.specs.Standing.{dummy, isDummy, isProper, mayStand}
 use Rattle.record.specs.Many.{every}
-use Rattle.record.specs.Order.{noLater, smallest}
+use Rattle.record.specs.Order.{before, smallest}
 use Rattle.record.proofs.StandingLaws.{dummy-is}
 use Rattle.record.proofs.ManyLaws.{get-in, every-each}
 use Rattle.record.proofs.OrderLaws.{ordered, smallest-low, dummy-after-proper}
-use Rattle.path.specs.Sizes.{leavesOf}
 use Rattle.path.specs.Path.{number, pathBucket}
 use Rattle.path.specs.Layout.{Contents}
 use Rattle.least.specs.Least.{inOrder}
@@ -45,33 +44,33 @@ own-in b own other = pick (eqb (number b % 2) 0)
     pick true = List·Memᴰ·head refl
     pick false = List·Memᴰ·tail (List·Memᴰ·head refl)
 
-module _ (h : ℕ) (next : Stamp) where
+module _ (h : ℕ) (rule : Rule) where
   -- the dummy is the last that may stand
   abbrev Stands : Record → Type 0
-  Stands x = (x ≡ dummy) ⊎ (isProper (leavesOf h) next x ≡ true)
+  Stands x = (x ≡ dummy) ⊎ (isProper rule x ≡ true)
 
-  last-dummy : (x : Record) → Stands x → noLater dummy x ≡ true → x ≡ dummy
+  last-dummy : (x : Record) → Stands x → before rule dummy x ≡ true → x ≡ dummy
   last-dummy x (inl e) l = e
-  last-dummy x (inr p) l = absurd (true≢false (sym l ∙ dummy-after-proper (leavesOf h) next x p))
+  last-dummy x (inr p) l = absurd (true≢false (sym l ∙ dummy-after-proper rule x p))
 
   -- where the dummy is the smallest, all are the dummy
-  all-last : (l : List Record) → dummy ≡ smallest l → {x : Record} → List·Memᴰ x l → Stands x → x ≡ dummy
-  all-last l e {x} i s = last-dummy x s (rw (← e) at (smallest-low noLater ordered i))
+  all-last : (l : List Record) → dummy ≡ smallest rule l → {x : Record} → List·Memᴰ x l → Stands x → x ≡ dummy
+  all-last l e {x} i s = last-dummy x s (rw (← e) at (smallest-low (before rule) (ordered rule) i))
 
-  stand-cases : (x : Record) → mayStand (leavesOf h) next x ≡ true → Stands x
+  stand-cases : (x : Record) → mayStand rule x ≡ true → Stands x
   unfolding mayStand
   stand-cases x s = elim (dichotomy (isDummy x)) [ inl f ↦ inr (rw f at s) | inr t ↦ inl (dummy-is x t) ]
 
   module _ (r : ℕ) (leaf : Leaf) (shown : ℕ → Contents) (beside : ℕ → Record) (way : List Record)
-      (u : Undamaged h r next dummy (record { leaf = leaf; shown = shown; beside = beside }) way)
-      (roots : every (mayStand (leavesOf h) next) (take r way) ≡ true) where
+      (u : Undamaged h r rule dummy (record { leaf = leaf; shown = shown; beside = beside }) way)
+      (roots : every (mayStand rule) (take r way) ≡ true) where
     root-dummies : {x : Record} → List·Memᴰ x (take r way) → x ≡ dummy
     root-dummies {x} i =
         all-last (take r way ++ _) (u .root) (Memᴰ·append-left _ i) (stand-cases x (every-each _ roots i))
 
     fetched-stands : (d : ℕ) → 1 ≤ d → d ≤ h → {x : Record} → List·Memᴰ x (shown d .least ∷ shown d .slots) → Stands x
     fetched-stands d some most i =
-        ⊎-elim inl (λ s. inr (s .0)) (sound-cases h next d (pathBucket h leaf d) _ (bucket-sound-at h leaf d some most shown next (u .path .buckets) i))
+        ⊎-elim inl (λ s. inr (s .0)) (sound-cases h rule d (pathBucket h leaf d) _ (bucket-sound-at h leaf d some most shown rule (u .path .buckets) i))
 
     -- the least records on the path, from the root down
     least-dummy : (d : ℕ) → suc d ≤ h → shown (suc d) .least ≡ dummy
@@ -81,7 +80,7 @@ module _ (h : ℕ) (next : Stamp) where
         (fetched-stands 1 (omega arith) most (List·Memᴰ·head refl))
     least-dummy (suc d) most =
         let above = least-dummy d (omega arith) in
-        let true-here = least-true-at h leaf shown beside (suc d) (omega arith) (omega arith) (u .path .leasts) in
+        let true-here = least-true-at h leaf shown beside rule (suc d) (omega arith) (omega arith) (u .path .leasts) in
         let e = rw (lt-ltb (suc d) h most) at (sym above ∙ true-here) in
         all-last (shown (suc d) .slots ++ _) e
         (Memᴰ·append-right (shown (suc d) .slots) (own-in (pathBucket h leaf (suc (suc d))) (shown (suc (suc d)) .least) (beside (suc (suc d)))))
@@ -89,7 +88,7 @@ module _ (h : ℕ) (next : Stamp) where
 
     slot-dummies : (d : ℕ) → suc d ≤ h → {x : Record} → List·Memᴰ x (shown (suc d) .slots) → x ≡ dummy
     slot-dummies d most i =
-        let true-here = least-true-at h leaf shown beside (suc d) (omega arith) most (u .path .leasts) in
+        let true-here = least-true-at h leaf shown beside rule (suc d) (omega arith) most (u .path .leasts) in
         all-last (shown (suc d) .slots ++ _) (sym (least-dummy d most) ∙ true-here) (Memᴰ·append-left _ i)
         (fetched-stands (suc d) (omega arith) most (List·Memᴰ·tail i))
 
@@ -106,8 +105,8 @@ slots-cases z ws (suc k) i =
 
 -- Nothing is found where the root's least record is the dummy.
 module _ (h z r : ℕ) (root : List Record) (ws : List ℕ) (full : r ≤ length root) (given : 4 * ((0 + h) * (z + 1)) ≤ length ws)
-    (next : Stamp) (leaf : Leaf) (roots : every (mayStand (leavesOf h) next) (take r root) ≡ true)
-    (good : pathDamaged h r next dummy (pathFetched h z leaf ws) (wayShown h z r root ws 0) ≡ false) where
+    (rule : Rule) (leaf : Leaf) (roots : every (mayStand rule) (take r root) ≡ true)
+    (good : pathDamaged h r rule dummy (pathFetched h z leaf ws) (wayShown h z r root ws 0) ≡ false) where
   abbrev way : List Record
   way = wayShown h z r root ws 0
 
@@ -117,14 +116,14 @@ module _ (h z r : ℕ) (root : List Record) (ws : List ℕ) (full : r ≤ length
   all-dummies : {x : Record} → List·Memᴰ x way → x ≡ dummy
   unfolding wayShown
   all-dummies {x} i =
-      let u = undamaged h r next dummy (pathFetched h z leaf ws) way good in
-      let stand : every (mayStand (leavesOf h) next) (take r way) ≡ true = rw top roots in
+      let u = undamaged h r rule dummy (pathFetched h z leaf ws) way good in
+      let stand : every (mayStand rule) (take r way) ≡ true = rw top roots in
       ⊎-elim
-      (λ (l : List·Memᴰ x (take r root)). root-dummies h next r leaf _ _ way u stand (rw (← top) at l))
+      (λ (l : List·Memᴰ x (take r root)). root-dummies h rule r leaf _ _ way u stand (rw (← top) at l))
       (λ (l : List·Memᴰ x (slotsShown z ws 0 h)).
       let (j, m, n) = slots-cases z ws h l in
       let e : 0 + j ≡ 0 + (suc j - 1) = omega arith in
-      slot-dummies h next r leaf _ _ way u stand j m (subst (λ (a : ℕ). List·Memᴰ x (wholeAt z ws a .slots)) e n))
+      slot-dummies h rule r leaf _ _ way u stand j m (subst (λ (a : ℕ). List·Memᴰ x (wholeAt z ws a .slots)) e n))
       (List·Memᴰ·append-cases (take r root) i)
 
   pub none-found : (f : Record → Bool) → f dummy ≡ false → found f way ≡ false

@@ -13,10 +13,10 @@ use lib.Dec.{eqb}
 use lib.ListN.{length, getD, take, drop, take-append-drop}
 use borrow.Author.Tests.{not-true, ltb-true, lt-ltb, le-ltb, eqb-true, eq-eqb}
 use Rattle.record.specs.declared.Bucket.{Bucket}
-use Rattle.record.specs.declared.Stamp.{Stamp}
 use Rattle.record.specs.declared.Record.{Record}
+use Rattle.record.specs.declared.Rule.{Rule}
 use Rattle.record.specs.Standing.{dummy, same, isDummy, isProper}
-use Rattle.record.specs.Order.{noLater, leastOf}
+use Rattle.record.specs.Order.{before, leastOf}
 use Rattle.record.proofs.StandingLaws.{same-true, true-same, is-dummy, proper-true, proper-not-dummy}
 use Rattle.record.proofs.ManyLaws.{get-in}
 use Rattle.record.proofs.OrderLaws.{smallest-in}
@@ -54,27 +54,27 @@ kid-cases {x} b own other m = pick (eqb (number b % 2) 0) m
     pick true i = elim (List·Memᴰ·cases-cons i) [ inl e ↦ inl e | inr j ↦ inr (List·Memᴰ·eq-of-singleton j) ]
     pick false i = elim (List·Memᴰ·cases-cons i) [ inl e ↦ inr e | inr j ↦ inl (List·Memᴰ·eq-of-singleton j) ]
 
-module _ (h r : ℕ) (next : Stamp) (m : Record) (proper : isProper (leavesOf h) next m ≡ true) where
+module _ (h r : ℕ) (rule : Rule) (leaves : rule .leaves ≡ leavesOf h) (m : Record) (proper : isProper rule m ≡ true) where
   not-dummy : m ≡ dummy → ⊥
-  not-dummy e = true≢false (rw (e, is-dummy) at (proper-not-dummy (leavesOf h) next m proper))
+  not-dummy e = true≢false (rw (e, is-dummy) at (proper-not-dummy rule m proper))
 
   -- a least record that is not the dummy is a slot or a child's
-  least-in : (slots kids : List Record) → m ≡ leastOf slots kids → List·Memᴰ m slots ⊎ List·Memᴰ m kids
-  least-in slots kids e = elim (smallest-in noLater (slots ++ kids)) [
+  least-in : (slots kids : List Record) → m ≡ leastOf rule slots kids → List·Memᴰ m slots ⊎ List·Memᴰ m kids
+  least-in slots kids e = elim (smallest-in (before rule) (slots ++ kids)) [
     | inl d ↦ absurd (not-dummy (e ∙ d))
     | inr i ↦ List·Memᴰ·append-cases slots (Memᴰ·cast e i)
   ]
 
   module _ (shown : ℕ → Contents) (beside : ℕ → Record) (way : List Record)
-      (u : Undamaged h r next m (record { leaf = m .label; shown = shown; beside = beside }) way)
+      (u : Undamaged h r rule m (record { leaf = m .label; shown = shown; beside = beside }) way)
       (slots-in : (d : ℕ) → 1 ≤ d → d ≤ h → List·Memᴰ m (shown d .slots) → List·Memᴰ m way) where
     -- a sibling is off the path of m's label, so its least record is another
     not-beside : (d : ℕ) → 1 ≤ d → d ≤ h → m ≡ beside d → ⊥
     not-beside d some most e =
-        let s = sibling-sound-at h (m .label) d some most beside next 1 some (u .path .siblings) in
+        let s = sibling-sound-at h (m .label) d some most beside rule 1 some (u .path .siblings) in
         ⊎-elim not-dummy
-        (λ s. sibling-off h (m .label) (proper-true _ _ _ proper .label) d some most d most (ap number (holds-true h (m .label) d _ (s .1))))
-        (sound-cases h next d (siblingOf (pathBucket h (m .label) d)) m (rw (← e) at s))
+        (λ s. sibling-off h (m .label) (omega (arith, leaves, proper-true _ _ proper .label)) d some most d most (ap number (holds-true h (m .label) d _ (s .1))))
+        (sound-cases h rule d (siblingOf (pathBucket h (m .label) d)) m (rw (← e) at s))
 
     -- so of two children it is the one on the path that m can be
     own-child : (d : ℕ) → suc d ≤ h → List·Memᴰ m (inOrder (pathBucket h (m .label) (suc d)) (shown (suc d) .least) (beside (suc d)))
@@ -86,7 +86,7 @@ module _ (h r : ℕ) (next : Stamp) (m : Record) (proper : isProper (leavesOf h)
     at-level : (d : ℕ) → 1 ≤ d → d ≤ h → m ≡ shown d .least
         → List·Memᴰ m way ⊎ List·Memᴰ m (kidsShown h (m .label) shown beside d)
     at-level d some most own =
-        let t = least-true-at h (m .label) shown beside d some most (u .path .leasts) in
+        let t = least-true-at h (m .label) shown beside rule d some most (u .path .leasts) in
         ⊎-elim (λ i. inl (slots-in d some most i)) inr (least-in (shown d .slots) _ (own ∙ t))
 
     -- k levels above the leaf's bucket, which has slots only
@@ -109,18 +109,18 @@ module _ (h r : ℕ) (next : Stamp) (m : Record) (proper : isProper (leavesOf h)
   own-name : named (m .label) (m .stamp) m ≡ true
   unfolding named
   own-name =
-      rw (proper-not-dummy (leavesOf h) next m proper, eq-eqb (m .label .0) _ refl, eq-eqb (m .stamp .0) _ refl)
+      rw (proper-not-dummy rule m proper, eq-eqb (m .label .0) _ refl, eq-eqb (m .stamp .0) _ refl)
 
 -- An ExtractMin's record is there: its path is that of the label of the root's least record m.
-module _ (h r : ℕ) (next : Stamp) (m : Record) (shown : ℕ → Contents) (beside : ℕ → Record) (way : List Record)
-    (high : 1 ≤ h) (proper : isProper (leavesOf h) next m ≡ true)
+module _ (h r : ℕ) (rule : Rule) (leaves : rule .leaves ≡ leavesOf h) (m : Record) (shown : ℕ → Contents) (beside : ℕ → Record) (way : List Record)
+    (high : 1 ≤ h) (proper : isProper rule m ≡ true)
     (slots-in : (d : ℕ) → 1 ≤ d → d ≤ h → List·Memᴰ m (shown d .slots) → List·Memᴰ m way)
-    (good : pathDamaged h r next m (record { leaf = m .label; shown = shown; beside = beside }) way ≡ false) where
+    (good : pathDamaged h r rule m (record { leaf = m .label; shown = shown; beside = beside }) way ≡ false) where
   on-way : List·Memᴰ m way
-  on-way = least-on-way h r next m proper shown beside way (undamaged h r next m _ way good) slots-in high
+  on-way = least-on-way h r rule leaves m proper shown beside way (undamaged h r rule m _ way good) slots-in high
 
   pub extract-found : found (named (m .label) (m .stamp)) way ≡ true
-  extract-found = member-found (named (m .label) (m .stamp)) on-way (own-name h r next m proper)
+  extract-found = member-found (named (m .label) (m .stamp)) on-way (own-name h r rule leaves m proper)
 
   -- Stamps are distinct, so what is found is m, and in one slot only.
   pub extract-is-least : (d : Record) → getD way (seek (named (m .label) (m .stamp)) (length way) way) d ≡ m
@@ -130,21 +130,21 @@ module _ (h r : ℕ) (next : Stamp) (m : Record) (shown : ℕ → Contents) (bes
       let x = getD way (seek f (length way) way) d in
       let (real, (l, s)) = simp and-eq-true-iff at (found-passes f way d extract-found) in
       let there = get-in way (seek f (length way) way) d (ltb-true _ _ extract-found) in
-      let once = undamaged h r next m _ way good .stamps in
-      stamp-once once there on-way (not-true (isDummy x) real) (proper-not-dummy (leavesOf h) next m proper) (eqb-true _ _ s)
+      let once = undamaged h r rule m _ way good .stamps in
+      stamp-once once there on-way (not-true (isDummy x) real) (proper-not-dummy rule m proper) (eqb-true _ _ s)
 
   -- so on its way the root's least record is known by its label and stamp
   by-name : (x : Record) → List·Memᴰ x way → named (m .label) (m .stamp) x ≡ true → same m x ≡ true
   unfolding named
   by-name x i t =
       let (real, (l, s)) = simp and-eq-true-iff at t in
-      let once = undamaged h r next m _ way good .stamps in
-      let e = stamp-once once i on-way (not-true (isDummy x) real) (proper-not-dummy (leavesOf h) next m proper) (eqb-true _ _ s) in
+      let once = undamaged h r rule m _ way good .stamps in
+      let e = stamp-once once i on-way (not-true (isDummy x) real) (proper-not-dummy rule m proper) (eqb-true _ _ s) in
       true-same (sym e)
 
   pub extract-by-name : (x : Record) → List·Memᴰ x way → named (m .label) (m .stamp) x ≡ same m x
   extract-by-name x i = elim (dichotomy (same m x)) [
-    | inr t ↦ rw (t, ← same-true m x t) (own-name h r next m proper)
+    | inr t ↦ rw (t, ← same-true m x t) (own-name h r rule leaves m proper)
     | inl f ↦ elim (dichotomy (named (m .label) (m .stamp) x)) [
       | inl g ↦ g ∙ sym f
       | inr t ↦ absurd (true≢false (sym (by-name x i t) ∙ f))
@@ -162,14 +162,14 @@ module _ (h z r : ℕ) (root : List Record) (ws : List ℕ) (full : r ≤ length
       let s = rw (← way-slots h z r root ws 0 full (omega arith) d some most) at i in
       drop-in (r + z * (d - 1)) way (take-in z (drop (r + z * (d - 1)) way) s)
 
-  module _ (next : Stamp) (m : Record) (high : 1 ≤ h) (proper : isProper (leavesOf h) next m ≡ true)
-      (good : pathDamaged h r next m (pathFetched h z (m .label) ws) (wayShown h z r root ws 0) ≡ false) where
+  module _ (rule : Rule) (leaves : rule .leaves ≡ leavesOf h) (m : Record) (high : 1 ≤ h) (proper : isProper rule m ≡ true)
+      (good : pathDamaged h r rule m (pathFetched h z (m .label) ws) (wayShown h z r root ws 0) ≡ false) where
     pub shown-extract-found : found (named (m .label) (m .stamp)) (wayShown h z r root ws 0) ≡ true
-    shown-extract-found = extract-found h r next m _ _ way high proper shown-in good
+    shown-extract-found = extract-found h r rule leaves m _ _ way high proper shown-in good
 
     pub shown-extract-is-least : (d : Record)
         → getD (wayShown h z r root ws 0) (seek (named (m .label) (m .stamp)) (length (wayShown h z r root ws 0)) (wayShown h z r root ws 0)) d ≡ m
-    shown-extract-is-least d = extract-is-least h r next m _ _ way high proper shown-in good d
+    shown-extract-is-least d = extract-is-least h r rule leaves m _ _ way high proper shown-in good d
 
     pub shown-extract-by-name : (x : Record) → List·Memᴰ x (wayShown h z r root ws 0) → named (m .label) (m .stamp) x ≡ same m x
-    shown-extract-by-name = extract-by-name h r next m _ _ way high proper shown-in good
+    shown-extract-by-name = extract-by-name h r rule leaves m _ _ way high proper shown-in good

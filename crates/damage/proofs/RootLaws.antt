@@ -6,6 +6,7 @@ use mathlib.Core.Path.{_≡_, sym, _∙_}
 use native.Mathlib.Omega.{arith}
 use lib.ListN.{length}
 use Rattle.record.specs.declared.Record.{Record}
+use Rattle.record.specs.declared.Rule.{Rule}
 use Rattle.record.specs.Standing.{dummy, same}
 use Rattle.record.specs.Order.{smaller, smallest, smallestBy}
 use Rattle.record.specs.Words.{recordAt}
@@ -25,10 +26,11 @@ first-shown z path room =
 pub first-beside : (sibs : List ℕ) → 4 ≤ length sibs → recordAt sibs 0 ≡ besideIn sibs 1
 first-beside sibs room = sym (records-at sibs 0 dummy (omega arith))
 
-pub kids-two : (lower upper last kid : Record) → last ≡ smaller upper dummy → kid ≡ smaller lower last → kid ≡ smallest (lower ∷ upper ∷ [])
+pub kids-two : (rule : Rule) (lower upper last kid : Record) → last ≡ smaller rule upper dummy → kid ≡ smaller rule lower last
+    → kid ≡ smallest rule (lower ∷ upper ∷ [])
 unfolding smallestBy
-kids-two lower upper last kid el e = e ∙ rw el
+kids-two rule lower upper last kid el e = e ∙ rw el
 
-pub root-true : (slots kids : List Record) (least kid given : Record) (verdict : Bool) → kid ≡ smallest kids → given ≡ over slots kid
-    → verdict ≡ same least given → verdict ≡ rootTrue least slots kids
-root-true slots kids least kid given verdict ek eg e = e ∙ rw (eg, ek, smallest-over)
+pub root-true : (rule : Rule) (slots kids : List Record) (least kid given : Record) (verdict : Bool) → kid ≡ smallest rule kids
+    → given ≡ over rule slots kid → verdict ≡ same least given → verdict ≡ rootTrue rule least slots kids
+root-true rule slots kids least kid given verdict ek eg e = e ∙ rw (eg, ek, smallest-over)

@@ -5,7 +5,7 @@
 // record of level d's sibling stands at place d - 1. The stamps are looked at in a scratch that holds all slots together.
 // Stands on `record`, `path`, `least`, `stamps`, `sound` and `truth`.
 ghost use mathlib.Core.Path.{_≡_};
-ghost use Prim.Native.Nat.{_*_, _≤_};
+ghost use Prim.Native.Nat.{_*_, _≤_, _^_};
 ghost use lib.ListN.{length};
 ghost use Rattle.record.specs.Words.{records};
 ghost use Rattle.sound.specs.Fetched.{fetchedIn};
@@ -14,7 +14,7 @@ ghost use Rattle.sound.specs.Room.{Room};
 use path::Sizes;
 use record::Leaf;
 use record::Record;
-use record::Stamp;
+use record::Rule;
 use sound::all_sound;
 use truth::leasts_true;
 
@@ -24,20 +24,21 @@ const PATH_SIBLINGS: u64 = 1;
 const PAIR_SIBLINGS: u64 = 2;
 
 // For crates above: Damaged for the one path of ExtractMin and Delete. `slots` is the scratch of the way, `least` the
-// root's least record, `next` the card's count of finished requests.
+// root's least record.
 pub fn path_damaged(
     path: &[u64],
     sibs: &[u64],
     slots: &[u64],
     sizes: Sizes,
     leaf: Leaf,
-    next: Stamp,
+    rule: Rule,
     least: Record,
 ) -> bool
     requires { ⌜ (Room sizes leaf (now path)) × ((4 * sizes .h ≤ length (now sibs)) × (4 * sizes .r ≤ length (now slots))) ⌝ }
-    ensures { λ x. ⌜ x ≡ pathDamaged (sizes .h) (sizes .r) next least (fetchedIn (sizes .z) leaf (now (path .entry)) (now (sibs .entry))) (records (now (slots .entry))) ⌝ }
+    requires { ⌜ rule .leaves ≡ 2 ^ sizes .h ⌝ }
+    ensures { λ x. ⌜ x ≡ pathDamaged (sizes .h) (sizes .r) rule least (fetchedIn (sizes .z) leaf (now (path .entry)) (now (sibs .entry))) (records (now (slots .entry))) ⌝ }
 {
-    if !all_sound(path, sibs, sizes, leaf, next, PATH_SIBLINGS) {
+    if !all_sound(path, sibs, sizes, leaf, rule, PATH_SIBLINGS) {
         return true;
     }
     if stamps::stamp_twice(slots) {
@@ -64,18 +65,18 @@ pub fn pair_damaged(
     sizes: Sizes,
     first: Leaf,
     second: Leaf,
-    next: Stamp,
+    rule: Rule,
     least: Record,
 ) -> bool
     requires { ⌜ (Room sizes first (now one)) × (4 * sizes .h ≤ length (now «one_sibs»)) ⌝ }
     requires { ⌜ (Room sizes second (now two)) × (4 * sizes .h ≤ length (now «two_sibs»)) ⌝ }
-    requires { ⌜ 4 * sizes .r ≤ length (now all) ⌝ }
-    ensures { λ x. ⌜ x ≡ pairDamaged (sizes .h) (sizes .r) next least (fetchedIn (sizes .z) first (now (one .entry)) (now («one_sibs» .entry))) (fetchedIn (sizes .z) second (now (two .entry)) (now («two_sibs» .entry))) (records (now (all .entry))) ⌝ }
+    requires { ⌜ (4 * sizes .r ≤ length (now all)) × (rule .leaves ≡ 2 ^ sizes .h) ⌝ }
+    ensures { λ x. ⌜ x ≡ pairDamaged (sizes .h) (sizes .r) rule least (fetchedIn (sizes .z) first (now (one .entry)) (now («one_sibs» .entry))) (fetchedIn (sizes .z) second (now (two .entry)) (now («two_sibs» .entry))) (records (now (all .entry))) ⌝ }
 {
-    if !all_sound(one, one_sibs, sizes, first, next, PAIR_SIBLINGS) {
+    if !all_sound(one, one_sibs, sizes, first, rule, PAIR_SIBLINGS) {
         return true;
     }
-    if !all_sound(two, two_sibs, sizes, second, next, PAIR_SIBLINGS) {
+    if !all_sound(two, two_sibs, sizes, second, rule, PAIR_SIBLINGS) {
         return true;
     }
     if stamps::stamp_twice(all) {

@@ -8,7 +8,7 @@ use native.Mathlib.Omega.{arith}
 use borrow.Author.Tests.{ne-eqb, lt-leb, le-ltb}
 use Rattle.record.specs.declared.Leaf.{Leaf}
 use Rattle.record.specs.declared.Stamp.{Stamp}
-use Rattle.record.specs.Standing.{dummyKey}
+use Rattle.record.specs.Standing.{dummyKey, ruleFor}
 use Rattle.record.proofs.StandingLaws.{below-known}
 use Rattle.path.specs.Sizes.{leavesOf}
 use Rattle.refusal.specs.Refusal.{firstGiven}
@@ -63,7 +63,7 @@ module _ (k m : Card) (sizes : m .sizes ≡ k .sizes) (time : m .t ≡ k .t) (co
   delete-again label label′ stamp stamp′ e below earlier =
       let a = deletable k label stamp e in
       rw (as-first (Delete label′ stamp′))
-      (rw (ne-eqb (k .t) (k .sizes .t) (a .time), lt-leb (leavesOf (k .sizes .h)) (label′ .0) below, below-known (record { 0 = k .t }) stamp′ earlier))
+      (rw (ne-eqb (k .t) (k .sizes .t) (a .time), lt-leb (leavesOf (k .sizes .h)) (label′ .0) below, below-known (ruleFor (leavesOf (k .sizes .h)) (k .t)) stamp′ earlier))
 
 -- ---- answers and what they say
 abbrev pub spoken : Reply → Bool

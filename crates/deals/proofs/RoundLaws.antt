@@ -14,11 +14,10 @@ use Rattle.record.specs.Standing.{isProper}
 use Rattle.record.proofs.StandingLaws.{proper-true, known-below}
 use Rattle.record.proofs.ManyLaws.{every-each}
 use Rattle.path.specs.declared.sizes.Sizes.{Sizes}
-use Rattle.path.specs.Sizes.{leavesOf}
 use Rattle.lists.specs.BucketList.{noBuckets}
 use Rattle.refusal.specs.Refusal.{firstGiven}
 use Rattle.refusal.proofs.RefusalLaws.{none-given}
-use Rattle.judge.specs.BadParts.{stampOf}
+use Rattle.parts.specs.Parts.{ruleOf}
 use Rattle.rack.proofs.ListedLaws.{listed-laid}
 use Rattle.request.specs.declared.Request.{Request}
 use Rattle.request.specs.declared.Waiting.the-variants.{Nothing, For}
@@ -122,9 +121,9 @@ module _ (s : Sizes) (u : World) (q : Queue) (i : Idle s u q) where
   idle-known e m =
       let stands = i .stands in
       let (y, inside, is) = Memᴰ·of-map eventOf (stands .live) (subst (List·Memᴰ e) (sym (stands .events)) m) in
-      let n = leavesOf (u .card .sizes .h) in
-      let proper = proper-true n (stampOf (u .card .t)) y (every-each (isProper n (stampOf (u .card .t))) (stands .ready .heap .good .proper) inside) in
-      omega (arith, known-below (stampOf (u .card .t)) (y .stamp) (proper .stamp), ap (λ (e : Event). e .ref .stamp) is)
+      let rule = ruleOf (partsOf (u .card)) in
+      let proper = proper-true rule y (every-each (isProper rule) (stands .ready .heap .good .proper) inside) in
+      omega (arith, known-below rule (y .stamp) (proper .stamp), ap (λ (e : Event). e .ref .stamp) is)
 
   -- a begin with room for its list is refused for its request alone
   pub idle-begin : {w : Request} (asked : Asked w) (places : List ℕ)

@@ -7,7 +7,7 @@ use mathlib.Core.Path.{_≡_, refl, sym, subst}
 use native.Mathlib.Omega.{arith}
 use lib.ListN.{length, replicate, getD}
 use Rattle.record.specs.Many.{every, reals, bears, stampTwice}
-use Rattle.record.specs.Order.{noLater, smallerBy, smallestBy}
+use Rattle.record.specs.Order.{before, smallerBy, smallestBy}
 use Rattle.record.specs.Standing.{dummyKey, same, isDummy, known, isProper, mayStand}
 use Rattle.record.specs.Words.{records, wordsOf}
 use Rattle.path.specs.declared.sizes.Sizes.{Sizes}
@@ -182,7 +182,7 @@ worked :
     × Worked (sizesOf 2 1 1 16) three four (0 ∷ 0 ∷ 3 ∷ []) threeShows fourShows 4
     × (map lists (trace (freshWorld (sizesOf 2 1 2 16)) twice) ≡ twiceShows)
     × (map foundOf (outcomes (freshWorld (sizesOf 2 1 2 16)) twice) ≡ 0 ∷ 0 ∷ 0 ∷ 1 ∷ 0 ∷ 0 ∷ [])
-unfolding every reals bears stampTwice noLater smallerBy smallestBy same isDummy known isProper mayStand records
+unfolding every reals bears stampTwice before smallerBy smallestBy same isDummy known isProper mayStand records
     wordsOf pairList pathList sum wordsMoved pathBucket holds siblingOf upFrom path between treeIn inRange firstGiven
     strangeSlot usedPast stampShared rootRecords greaterThanSome rootFull oddLeast badParts seek fits movedTo pull
     pulls evictUp evict slotsAt inOrder kids named found removed wholeAt siblingAt siblingsShown slotsShown wayShown

@@ -7,15 +7,14 @@ use mathlib.Core.Option.{some}
 use mathlib.Core.Path.{_≡_, refl, sym, ap, subst, _∙_}
 use native.Mathlib.Omega.{arith}
 use lib.ListN.{length, length-map}
-use Rattle.record.specs.declared.Stamp.{Stamp}
 use Rattle.record.specs.declared.Record.{Record}
+use Rattle.record.specs.declared.Rule.{Rule}
 use Rattle.record.specs.Standing.{isDummy, isProper}
 use Rattle.record.specs.Order.{smallest, smallestBy}
 use Rattle.record.proofs.ManyLaws.{every-each}
-use Rattle.path.specs.Sizes.{leavesOf}
 use Rattle.clearing.specs.Removal.{named, found}
 use Rattle.clearing.proofs.RemovalLaws.{member-found}
-use Rattle.judge.specs.BadParts.{stampOf}
+use Rattle.parts.specs.Parts.{ruleOf}
 use Rattle.settle.specs.Left.{Left}
 use Rattle.copies.specs.Copy.{fetched}
 use Rattle.card.specs.declared.Card.{Card}
@@ -45,10 +44,10 @@ use Rattle.demands.proofs.QueueLaws.{least-smallest, has-found, taken-o
 abbrev pub queueOf : List Record → ℕ → Queue
 queueOf live t = record { events = map eventOf live; taken = t }
 
-least-of : (leaves : ℕ) (next : Stamp) (live : List Record) → ((y : Record) → List·Memᴰ y live → isProper leaves next y ≡ true)
-    → Ascending live → (m : Record) → List·Memᴰ m live → leastEvent (map eventOf live) ≡ some (eventOf (smallest live))
-least-of leaves next [] k a m i = absurd (List·Memᴰ·not-nil i)
-least-of leaves next (x ∷ xs) k a m i = least-smallest leaves next x xs k a
+least-of : (rule : Rule) (live : List Record) → ((y : Record) → List·Memᴰ y live → isProper rule y ≡ true)
+    → Ascending live → (m : Record) → List·Memᴰ m live → leastEvent (map eventOf live) ≡ some (eventOf (smallest rule live))
+least-of rule [] k a m i = absurd (List·Memᴰ·not-nil i)
+least-of rule (x ∷ xs) k a m i = least-smallest rule x xs k a
 
 -- a request is finished with no refusal
 pub finished-number : (k : Card) (q : Request) (l : Left) → numberOf (finishedBy k q l .answer) ≡ 0
@@ -58,11 +57,11 @@ finished-number k Extract l = refl
 finished-number k (Delete label stamp) l = refl
 
 module _ (k : Card) (tree : List ℕ) (live : List Record) (r : Ready k tree live) where
-  known : (y : Record) → List·Memᴰ y live → isProper (leavesOf (k .sizes .h)) (stampOf (k .t)) y ≡ true
-  known y i = every-each (isProper (leavesOf (k .sizes .h)) (stampOf (k .t))) (r .heap .good .proper) i
+  known : (y : Record) → List·Memᴰ y live → isProper (ruleOf (partsOf k)) y ≡ true
+  known y i = every-each (isProper (ruleOf (partsOf k))) (r .heap .good .proper) i
 
   real : (y : Record) → List·Memᴰ y live → isDummy y ≡ false
-  real = live-real (k .sizes) (stampOf (k .t)) _ live (r .heap .good)
+  real = live-real (k .sizes) (ruleOf (partsOf k)) _ live (r .heap .good)
 
   module _ (some-live : 1 ≤ k .c) where
     in-live : List·Memᴰ (k .least) live
@@ -71,7 +70,7 @@ module _ (k : Card) (tree : List ℕ) (live : List Record) (r : Ready k tree liv
     -- the root's least record is the first of the least keys
     pub least-told : leastEvent (map eventOf live) ≡ some (eventOf (k .least))
     least-told =
-        rw (ready-least k tree live r) (least-of (leavesOf (k .sizes .h)) (stampOf (k .t)) live known (r .heap .order) (k .least) in-live)
+        rw (ready-least k tree live r) (least-of (ruleOf (partsOf k)) live known (r .heap .order) (k .least) in-live)
 
     least-found : found (named (k .least .label) (k .least .stamp)) live ≡ true
     least-found =
@@ -101,14 +100,14 @@ module _ (k : Card) (tree : List ℕ) (live : List Record) (r : Ready k tree liv
     live-extract : q ≡ Extract → 1 ≤ k .c
     live-extract e = omega (arith, extractable k (subst (λ (a : Request). firstGiven (requestTable k a) ≡ 0) e (waiting-taken k tree live q r busy)) .some)
 
-    events-after : (a : Request) → q ≡ a → map eventOf (liveAfter (k .t) live a) ≡ next (queueOf live (k .t)) (asks a) .events
+    events-after : (a : Request) → q ≡ a → map eventOf (liveAfter (partsOf k) live a) ≡ next (queueOf live (k .t)) (asks a) .events
     unfolding liveAfter
     events-after (Insert key value label first second) e = map-append eventOf live _
     events-after Extract e = sym (rw (← ready-least k tree live r) (least-goes (live-extract e)))
     events-after (Delete label stamp) e = sym (taken-out label stamp live real (r .heap .order))
 
     -- the queue's events and count after it
-    pub next-events : map eventOf (liveAfter (k .t) live q) ≡ next (queueOf live (k .t)) (asks q) .events
+    pub next-events : map eventOf (liveAfter (partsOf k) live q) ≡ next (queueOf live (k .t)) (asks q) .events
     next-events = events-after q refl
 
     module _ (words : List ℕ) where

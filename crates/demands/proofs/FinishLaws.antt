@@ -28,6 +28,7 @@ use Rattle.rack.proofs.RefusalLaws.{refuses-words}
 use Rattle.card.specs.declared.Card.{Card}
 use Rattle.card.specs.declared.Done.{Done}
 use Rattle.answers.specs.declared.Answer.the-variants.{Refused}
+use Rattle.card.specs.Tables.{partsOf}
 use Rattle.card.specs.Answers.{orRefused}
 use Rattle.card.specs.BadCard.{badCard}
 use Rattle.card.specs.Calls.{listOf}
@@ -210,7 +211,7 @@ module _ (k : Card) (tree places : List ℕ) (live : List Record) (r : Ready k t
                 stands = record {
                   sizes = refl;
                   waiting = refl;
-                  live = liveAfter (k .t) live a;
+                  live = liveAfter (partsOf k) live a;
                   ready = finish-ready k tree words live r a busy word;
                   events = next-events k tree live r a busy;
                   taken = next-taken (k .t) live a;

@@ -14,8 +14,9 @@ use borrow.Author.Tests.{ltb-true, ltb-false, lt-ltb, le-ltb, eq-eqb, ne-eqb}
 use Rattle.record.specs.declared.Leaf.{Leaf}
 use Rattle.record.specs.declared.Stamp.{Stamp}
 use Rattle.record.specs.declared.Record.{Record}
+use Rattle.record.specs.declared.Rule.{Rule}
 use Rattle.record.specs.Standing.{dummy, isDummy, isProper}
-use Rattle.record.specs.Order.{noLater, smallerBy, smallestBy, smallest}
+use Rattle.record.specs.Order.{before, smallerBy, smallestBy, smallest}
 use Rattle.record.proofs.StandingLaws.{proper-true}
 use Rattle.record.proofs.OrderLaws.{order-but-age, smaller-first, smallest-in, proper-before-dummy}
 use Rattle.way.specs.Evict.{seek}
@@ -31,10 +32,10 @@ use Rattle.demands.proofs.SortedLaws.{has-own, has-other, out-own, out-
 
 -- ---- the least
 -- where the order of two records is that of their events, so is the smaller
-sooner-smaller : (x m : Record) → noLater x m ≡ noDearer (eventOf x) (eventOf m)
-    → sooner (eventOf x) (some (eventOf m)) ≡ some (eventOf (smallerBy noLater x m))
+sooner-smaller : (rule : Rule) (x m : Record) → before rule x m ≡ noDearer (eventOf x) (eventOf m)
+    → sooner (eventOf x) (some (eventOf m)) ≡ some (eventOf (smallerBy (before rule) x m))
 unfolding smallerBy
-sooner-smaller x m e = rw e (elim (noDearer (eventOf x) (eventOf m)) as (λ b. some (cond b (eventOf x) (eventOf m)) ≡ some (eventOf (cond b x m))) [ true ↦ refl | false ↦ refl ])
+sooner-smaller rule x m e = rw e (elim (noDearer (eventOf x) (eventOf m)) as (λ b. some (cond b (eventOf x) (eventOf m)) ≡ some (eventOf (cond b x m))) [ true ↦ refl | false ↦ refl ])
 
 first-one : (x : Record) → leastEvent (map eventOf (x ∷ [])) ≡ some (eventOf x)
 unfolding leastEvent
@@ -44,29 +45,29 @@ first-more : (x : Record) (es : List Event) (m : Event) → leastEvent es ≡ so
 unfolding leastEvent
 first-more x es m e = rw e
 
-smallest-more : (x : Record) (xs : List Record) → smallest (x ∷ xs) ≡ smallerBy noLater x (smallest xs)
+smallest-more : (rule : Rule) (x : Record) (xs : List Record) → smallest rule (x ∷ xs) ≡ smallerBy (before rule) x (smallest rule xs)
 unfolding smallestBy
-smallest-more x xs = refl
+smallest-more rule x xs = refl
 
-smallest-one : (x : Record) → noLater x dummy ≡ true → smallest (x ∷ []) ≡ x
+smallest-one : (rule : Rule) (x : Record) → before rule x dummy ≡ true → smallest rule (x ∷ []) ≡ x
 unfolding smallestBy
-smallest-one x h = smaller-first noLater h
+smallest-one rule x h = smaller-first (before rule) h
 
-module _ (leaves : ℕ) (next : Stamp) where
+module _ (rule : Rule) where
   abbrev Known : List Record → Type 0
-  Known xs = (y : Record) → List·Memᴰ y xs → isProper leaves next y ≡ true
+  Known xs = (y : Record) → List·Memᴰ y xs → isProper rule y ≡ true
 
   -- "earlier insertion first" is the order of stamps
   pub least-smallest : (x : Record) (xs : List Record) → Known (x ∷ xs) → Ascending (x ∷ xs)
-      → leastEvent (map eventOf (x ∷ xs)) ≡ some (eventOf (smallest (x ∷ xs)))
-  least-smallest x [] k a = rw (smallest-one x (proper-before-dummy leaves next x (k x (List·Memᴰ·head refl)))) (first-one x)
-  least-smallest x (y ∷ ys) k (more before rest) =
-      let m = smallest (y ∷ ys) in
+      → leastEvent (map eventOf (x ∷ xs)) ≡ some (eventOf (smallest rule (x ∷ xs)))
+  least-smallest x [] k a = rw (smallest-one rule x (proper-before-dummy rule x (k x (List·Memᴰ·head refl)))) (first-one x)
+  least-smallest x (y ∷ ys) k (more earlier rest) =
+      let m = smallest rule (y ∷ ys) in
       let below = least-smallest y ys (λ z i. k z (List·Memᴰ·tail i)) rest in
-      let p = proper-true leaves next x (k x (List·Memᴰ·head refl)) in
+      let p = proper-true rule x (k x (List·Memᴰ·head refl)) in
       let h : (x .key < m .key) ⊎ (x .stamp .0 < m .stamp .0) =
-      ⊎-elim (λ (e : m ≡ dummy). inl (rw e (p .key))) (λ (i : List·Memᴰ m (y ∷ ys)). inr (before m i)) (smallest-in noLater (y ∷ ys)) in
-      rw (smallest-more x (y ∷ ys)) (first-more x (map eventOf (y ∷ ys)) (eventOf m) below ∙ sooner-smaller x m (order-but-age x m h ∙ sym (dear-numbers (eventOf x) (eventOf m))))
+      ⊎-elim (λ (e : m ≡ dummy). inl (rw e (p .key))) (λ (i : List·Memᴰ m (y ∷ ys)). inr (earlier m i)) (smallest-in (before rule) (y ∷ ys)) in
+      rw (smallest-more rule x (y ∷ ys)) (first-more x (map eventOf (y ∷ ys)) (eventOf m) below ∙ sooner-smaller rule x m (order-but-age rule x m h ∙ sym (dear-numbers (eventOf x) (eventOf m))))
 
 -- ---- by reference
 found-none : (f : Record → Bool) → found f [] ≡ false

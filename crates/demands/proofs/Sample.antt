@@ -10,7 +10,7 @@ use Rattle.record.specs.Standing.{dummyKey, same, isDummy, known, isProper, may
 use Rattle.request.specs.declared.Request.{Request}
 use Rattle.demands.specs.World.{Asked, freshWorld, insert, extract, delete, Call, begin, finish, withdraw, findMin, Outcome, step, outcomes}
 use Rattle.record.specs.Many.{every, reals, bears, stampTwice}
-use Rattle.record.specs.Order.{noLater, smallerBy, smallestBy}
+use Rattle.record.specs.Order.{before, smallerBy, smallestBy}
 use Rattle.record.specs.Words.{records, wordsOf}
 use Rattle.lists.specs.BucketList.{pairList, pathList, sum, wordsMoved}
 use Rattle.path.specs.Path.{pathBucket, holds, siblingOf, upFrom, path}
@@ -97,7 +97,7 @@ sample :
     ∷ (0 ∷ 2 ∷ 2 ∷ 0 ∷ 0 ∷ 0 ∷ 0 ∷ []) ∷ (2 ∷ 0 ∷ 0 ∷ 0 ∷ 0 ∷ 0 ∷ 0 ∷ []) ∷ (0 ∷ 5 ∷ 50 ∷ 0 ∷ 0 ∷ 0 ∷ 40 ∷ [])
     ∷ (0 ∷ 5 ∷ 51 ∷ 3 ∷ 1 ∷ 0 ∷ 0 ∷ [])
     ∷ [])
-unfolding every reals bears stampTwice noLater smallerBy smallestBy same isDummy known isProper mayStand records
+unfolding every reals bears stampTwice before smallerBy smallestBy same isDummy known isProper mayStand records
     wordsOf pairList pathList sum wordsMoved pathBucket holds siblingOf upFrom path between treeIn inRange firstGiven
     strangeSlot usedPast stampShared rootRecords greaterThanSome rootFull oddLeast badParts seek fits movedTo pull
     pulls evictUp evict slotsAt inOrder kids named found removed wholeAt siblingAt siblingsShown slotsShown wayShown

@@ -11,7 +11,8 @@ use Rattle.record.specs.Standing.{dummy, isDummy}
 use Rattle.record.proofs.StandingLaws.{is-dummy}
 use Rattle.path.specs.declared.sizes.Sizes.{Sizes}
 use Rattle.request.specs.declared.Waiting.{Waiting}
-use Rattle.judge.specs.BadParts.{stampOf}
+use Rattle.parts.specs.Parts.{ruleOf}
+use Rattle.card.specs.Tables.{partsOf}
 use Rattle.tree.specs.Path.{OnPath}
 use Rattle.good.specs.Good.{Good}
 use Rattle.good.proofs.FitLaws.{at-place}
@@ -36,7 +37,7 @@ module _ (z : Sizes) (u : World) (p : Waiting) (q : Queue) (s : Stands z u p q) 
   abbrev live : List Record
   live = s .live
 
-  good : Good (u .card .sizes) (stampOf (u .card .t)) (buckets u) live
+  good : Good (u .card .sizes) (ruleOf (partsOf (u .card))) (buckets u) live
   good = s .ready .heap .good
 
   -- the live record of an event
@@ -52,14 +53,14 @@ module _ (z : Sizes) (u : World) (p : Waiting) (q : Queue) (s : Stands z u p q) 
       → OnPath (u .card .sizes .h) (inSlot u b i .label) b
   on-path x m b i p e =
       ⊎-elim (λ (d : inSlot u b i ≡ dummy).
-      absurd (true≢false (sym is-dummy ∙ ap isDummy (sym d ∙ e) ∙ live-real (u .card .sizes) (stampOf (u .card .t)) (buckets u) live good x m)))
+      absurd (true≢false (sym is-dummy ∙ ap isDummy (sym d ∙ e) ∙ live-real (u .card .sizes) (ruleOf (partsOf (u .card))) (buckets u) live good x m)))
       (λ (t : List·Memᴰ (inSlot u b i) live × OnPath (u .card .sizes .h) (inSlot u b i .label) b). t .1) (stands-in b i p)
 
   event-slot : (e : Event) → List·Memᴰ e (q .events)
       → (b : Bucket) × (i : ℕ) × Slot u b i × (eventOf (inSlot u b i) ≡ e) × OnPath (u .card .sizes .h) (inSlot u b i .label) b
   event-slot e m =
       let r = record-of e m in
-      let h = some-slot (u .card .sizes) (stampOf (u .card .t)) (buckets u) live good (r .0) (r .1) in
+      let h = some-slot (u .card .sizes) (ruleOf (partsOf (u .card))) (buckets u) live good (r .0) (r .1) in
       let p : Slot u (h .0) (h .1) = record { within = h .2 .within; place = h .2 .place } in
       (h .0, h .1, p, ap eventOf (h .2 .there) ∙ r .2, on-path (r .0) (r .1) (h .0) (h .1) p (h .2 .there))
 
@@ -74,7 +75,7 @@ module _ (z : Sizes) (u : World) (p : Waiting) (q : Queue) (s : Stands z u p q) 
         seated = event-slot;
         once = λ e m a b i j p r f g.
             let x = record-of e m in
-            one-slot (u .card .sizes) (stampOf (u .card .t)) (buckets u) live good (x .0) (x .1) a b i j (holds e (x .0) (x .2) a i p f)
+            one-slot (u .card .sizes) (ruleOf (partsOf (u .card))) (buckets u) live good (x .0) (x .1) a b i j (holds e (x .0) (x .2) a i p f)
             (holds e (x .0) (x .2) b j r g);
         nothingElse = λ b i p.
             ⊎-elim inl

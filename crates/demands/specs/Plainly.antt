@@ -8,6 +8,8 @@ use lib.ListN.{length, getD, take}
 use Rattle.record.specs.declared.Bucket.{Bucket}
 use Rattle.record.specs.declared.Record.{Record}
 use Rattle.record.specs.Standing.{dummy}
+use Rattle.parts.specs.Parts.{ruleOf}
+use Rattle.card.specs.Tables.{partsOf}
 use Rattle.tree.specs.Tree.{Tree, InTree, treeOf}
 use Rattle.tree.specs.Path.{OnPath}
 use Rattle.good.specs.Good.{LeastTrue}
@@ -40,6 +42,6 @@ module _ (u : World) where
     -- "Nothing else may stand in a slot."
     pub nothingElse : (b : Bucket) (i : ℕ) → Slot b i → (inSlot b i ≡ dummy) ⊎ List·Memᴰ (eventOf (inSlot b i)) (q .events)
     -- "the smallest of its own slots and its children's least records, or the dummy"
-    pub leasts : (b : Bucket) → InTree (u .card .sizes .h) b → LeastTrue (u .card .sizes .h) buckets b
+    pub leasts : (b : Bucket) → InTree (u .card .sizes .h) b → LeastTrue (ruleOf (partsOf (u .card))) (u .card .sizes .h) buckets b
     -- "the count c of live events"
     pub count : u .card .c ≡ length (q .events)

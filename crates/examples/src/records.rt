@@ -2,7 +2,14 @@
 use crate::line;
 use record::Leaf;
 use record::Record;
+use record::Rule;
 use record::Stamp;
+
+// N is 4 here, and three requests are finished.
+const RULE: Rule = Rule {
+    leaves: 4,
+    below: Stamp(3),
+};
 
 fn record_line(text: &[u8], r: Record) {
     line::name(text);
@@ -26,30 +33,27 @@ pub(crate) fn records() {
     orders();
 }
 
-// N is 4 here, and three requests are finished.
 fn keys() {
-    let next = Stamp(3);
     let last_key = Record::proper(18446744073709551614, 0, Leaf(3), Stamp(2));
-    verdict_line(b"key 2^64 - 2 is proper:", last_key.is_proper(4, next));
+    verdict_line(b"key 2^64 - 2 is proper:", last_key.is_proper(RULE));
     let no_key = Record::proper(18446744073709551615, 0, Leaf(3), Stamp(2));
-    verdict_line(b"key 2^64 - 1 is proper:", no_key.is_proper(4, next));
+    verdict_line(b"key 2^64 - 1 is proper:", no_key.is_proper(RULE));
     verdict_line(
         b"key 2^64 - 1 with a label is the dummy:",
         no_key.is_dummy(),
     );
     verdict_line(
         b"key 2^64 - 1 with a label may stand:",
-        no_key.may_stand(4, next),
+        no_key.may_stand(RULE),
     );
 }
 
 fn bounds() {
-    let next = Stamp(3);
-    verdict_line(b"the dummy may stand:", Record::DUMMY.may_stand(4, next));
+    verdict_line(b"the dummy may stand:", Record::DUMMY.may_stand(RULE));
     let label_n = Record::proper(5, 50, Leaf(4), Stamp(2));
-    verdict_line(b"label N is proper:", label_n.is_proper(4, next));
+    verdict_line(b"label N is proper:", label_n.is_proper(RULE));
     let stamp_t = Record::proper(5, 50, Leaf(3), Stamp(3));
-    verdict_line(b"stamp t is proper:", stamp_t.is_proper(4, next));
+    verdict_line(b"stamp t is proper:", stamp_t.is_proper(RULE));
 }
 
 fn orders() {

@@ -6,12 +6,13 @@ ghost use Rattle.lists.specs.BucketList.{wordsMoved};
 ghost use Rattle.listing.specs.Listing.{listFor};
 ghost use Rattle.finishes.specs.Finishes.{leftFor, damagedFor, Finishable};
 use parts::Parts;
+use path::ROOT_PLACES;
 use record::Record;
 use request::Job;
 use settle::Settled;
 
 // For crates above: the finish of a job.
-pub fn settle_job(words: &mut [u64], root: [Record; 64], parts: Parts, job: Job) -> Settled
+pub fn settle_job(words: &mut [u64], root: [Record; ROOT_PLACES], parts: Parts, job: Job) -> Settled
     requires { ⌜ Finishable parts job (now words) ⌝ }
     ensures { λ out. ⌜ Settles parts root (damagedFor parts root job (now (words .entry))) (leftFor parts root job (now (words .entry))) (wordsMoved (parts .sizes .z) (listFor (parts .sizes .h) job)) (now (words .entry)) (now (words .exit)) out ⌝ }
 {

@@ -12,8 +12,8 @@ use lib.Pow.{pow-mono}
 use borrow.Author.Tests.{lt-ltb, le-ltb}
 use Rattle.record.specs.declared.Leaf.{Leaf}
 use Rattle.record.specs.declared.Bucket.{Bucket}
-use Rattle.record.specs.declared.Stamp.{Stamp}
 use Rattle.record.specs.declared.Record.{Record}
+use Rattle.record.specs.declared.Rule.{Rule}
 use Rattle.record.specs.Standing.{isDummy}
 use Rattle.record.specs.Order.{leastOf}
 use Rattle.record.specs.Many.{every}
@@ -58,20 +58,20 @@ band-level d e n a b c f = elim (decLe (suc d) e) [
 abbrev pub shownBy : ℕ → Leaf → Tree → Fetched
 shownBy h q T = record { leaf = q; shown = λ d. T (pathBucket h q d); beside = besideOf h q T }
 
-module _ (s : Sizes) (next : Stamp) (T : Tree) (live : List Record) (g : Good s next T live) where
+module _ (s : Sizes) (rule : Rule) (T : Tree) (live : List Record) (g : Good s rule T live) where
   -- ---- clause 1
-  noted-sound : (d : ℕ) (b : Bucket) → 2 ^ d ≤ number b → number b < 2 ^ suc d → (x : Record) → Noted s next T live g b x
-      → sound (s .h) next d b x ≡ true
+  noted-sound : (d : ℕ) (b : Bucket) → 2 ^ d ≤ number b → number b < 2 ^ suc d → (x : Record) → Noted s rule T live g b x
+      → sound (s .h) rule d b x ≡ true
   unfolding sound
   noted-sound d b low high x n =
       ⊎-elim (λ e. let d : isDummy x ≡ true = ap isDummy e ∙ is-dummy in rw d)
       (λ r.
       let o = r .1 in
-      let band = path-band (s .h) (x .label) (live-label s next T live g x (r .0)) (o .level) (o .within) in
+      let band = path-band (s .h) (x .label) (live-label s rule T live g x (r .0)) (o .level) (o .within) in
       let at = ap number (o .is) in
       let e : o .level ≡ d = band-level (o .level) d (number b) (omega (arith, band .0)) (omega (arith, band .1)) low high in
       let own : holds (s .h) (x .label) d b ≡ true = rw (o .is, ← e) (holds-own (s .h) (x .label) (o .level)) in
-      rw (live-real s next T live g x (r .0), live-proper s next T live g x (r .0), own))
+      rw (live-real s rule T live g x (r .0), live-proper s rule T live g x (r .0), own))
       n
 
   module _ (q : Leaf) (inside : q .0 < leavesOf (s .h)) where
@@ -81,30 +81,30 @@ module _ (s : Sizes) (next : Stamp) (T : Tree) (live : List Record) (g : Good s 
     abbrev beside : ℕ → Record
     beside = besideOf (s .h) q T
 
-    buckets-sound : pathSound (s .h) q shown next ≡ true
+    buckets-sound : pathSound (s .h) q shown rule ≡ true
     unfolding pathSound
     buckets-sound = each-every _ (upFrom 1 (s .h)) (λ d i. level d (levels-range 1 (s .h) i))
       where
         level : (d : ℕ) → (1 ≤ d) × (d < 1 + s .h)
-            → every (sound (s .h) next d (pathBucket (s .h) q d)) (shown d .least ∷ shown d .slots) ≡ true
+            → every (sound (s .h) rule d (pathBucket (s .h) q d)) (shown d .least ∷ shown d .slots) ≡ true
         level d r =
             let t = path-inside (s .h) q inside d (omega (arith, r .1)) in
             let band = path-band (s .h) q inside d (omega (arith, r .1)) in
-            each-every (sound (s .h) next d (pathBucket (s .h) q d)) (shown d .least ∷ shown d .slots) (λ x m. noted-sound d _ (band .0) (band .1) x
-            (⊎-elim (λ e. rw e (least-noted s next T live g _ t)) (λ i. g .housed .stands _ t x i) (List·Memᴰ·cases-cons m)))
+            each-every (sound (s .h) rule d (pathBucket (s .h) q d)) (shown d .least ∷ shown d .slots) (λ x m. noted-sound d _ (band .0) (band .1) x
+            (⊎-elim (λ e. rw e (least-noted s rule T live g _ t)) (λ i. g .housed .stands _ t x i) (List·Memᴰ·cases-cons m)))
 
-    siblings-sound : (from : ℕ) → 1 ≤ from → siblingsSound (s .h) q beside next from ≡ true
+    siblings-sound : (from : ℕ) → 1 ≤ from → siblingsSound (s .h) q beside rule from ≡ true
     unfolding siblingsSound
     siblings-sound from some = each-every _ (upFrom from (suc (s .h) - from)) (λ d i. level d (levels-range from (suc (s .h) - from) i))
       where
         level : (d : ℕ) → (from ≤ d) × (d < from + (suc (s .h) - from))
-            → sound (s .h) next d (siblingOf (pathBucket (s .h) q d)) (beside d) ≡ true
+            → sound (s .h) rule d (siblingOf (pathBucket (s .h) q d)) (beside d) ≡ true
         level d r =
             let l : 1 ≤ d = omega (arith, r .0) in
             let m : d ≤ s .h = omega (arith, r .0, r .1) in
             let band = sibling-band (s .h) q inside d l m in
             let t = sibling-in-tree (s .h) q inside d l m in
-            noted-sound d _ (band .0) (band .1) _ (least-noted s next T live g _ (record { some = omega (arith, t .0); most = t .1 }))
+            noted-sound d _ (band .0) (band .1) _ (least-noted s rule T live g _ (record { some = omega (arith, t .0); most = t .1 }))
 
     -- ---- clause 3
     pub kids-shown : (d : ℕ) → d ≤ s .h → kidsShown (s .h) q shown beside d ≡ childrenIn (s .h) T (pathBucket (s .h) q d)
@@ -122,14 +122,14 @@ module _ (s : Sizes) (next : Stamp) (T : Tree) (live : List Record) (g : Good s 
           ∙ sym (children-inner (s .h) T _ (omega (arith, band, pow-mono {i = suc d} {j = s .h} next))))
     ]
 
-    leasts-true : leastsTrue (s .h) q shown beside ≡ true
+    leasts-true : leastsTrue (s .h) q shown beside rule ≡ true
     unfolding leastsTrue
     leasts-true = each-every _ (upFrom 1 (s .h)) (λ d i.
         let r = levels-range 1 (s .h) i in
         let l : d ≤ s .h = omega (arith, r .1) in
-        true-same (g .leasts _ (path-inside (s .h) q inside d l) ∙ ap (leastOf (shown d .slots)) (sym (kids-shown d l))))
+        true-same (g .leasts _ (path-inside (s .h) q inside d l) ∙ ap (leastOf rule (shown d .slots)) (sym (kids-shown d l))))
 
-    pub path-good : (from : ℕ) → 1 ≤ from → PathGood (s .h) next from (shownBy (s .h) q T)
+    pub path-good : (from : ℕ) → 1 ≤ from → PathGood (s .h) rule from (shownBy (s .h) q T)
     path-good from some = record { buckets = buckets-sound; siblings = siblings-sound from some; leasts = leasts-true }
 
     -- ---- all three
@@ -137,18 +137,18 @@ module _ (s : Sizes) (next : Stamp) (T : Tree) (live : List Record) (g : Good s 
     unfolding levelOf
     way-root =
         joined-levels (s .r) (s .z) (s .h) (slotsOn (s .h) q T)
-        (way-sized s q inside T live (g .housed) (live-label s next T live g)) 0 (omega arith)
+        (way-sized s q inside T live (g .housed) (live-label s rule T live g)) 0 (omega arith)
         ∙ ap (λ (b : Bucket). T b .slots) (path-root (s .h) q inside)
 
-    pub good-path : 1 ≤ s .h → pathDamaged (s .h) (s .r) next (T root .least) (shownBy (s .h) q T) (wayOf (s .h) q T) ≡ false
+    pub good-path : 1 ≤ s .h → pathDamaged (s .h) (s .r) rule (T root .least) (shownBy (s .h) q T) (wayOf (s .h) q T) ≡ false
     unfolding kidsShown
     good-path high =
         let top = path-root (s .h) q inside in
         let kids = kids-shown 0 (omega arith) in
-        not-damaged (s .h) (s .r) next (T root .least) (shownBy (s .h) q T) (wayOf (s .h) q T)
+        not-damaged (s .h) (s .r) rule (T root .least) (shownBy (s .h) q T) (wayOf (s .h) q T)
         (record {
           path = path-good 1 (omega arith);
-          stamps = once-test (housed-parts s q inside T live (g .housed) (live-label s next T live g) .once);
+          stamps = once-test (housed-parts s q inside T live (g .housed) (live-label s rule T live g) .once);
           root =
               rw (way-root, (rw (lt-ltb 0 (s .h) high) at kids), top)
               (g .leasts root (rw top at (path-inside (s .h) q inside 0 (omega arith))));

@@ -11,10 +11,10 @@ use native.Mathlib.Omega.{arith}
 use lib.ListN.{length, take}
 use lib.Pow.{pow-pos}
 use borrow.Author.Tests.{ne-eqb, le-ltb}
-use Rattle.record.specs.declared.Stamp.{Stamp}
 use Rattle.record.specs.declared.Record.{Record}
+use Rattle.record.specs.declared.Rule.{Rule}
 use Rattle.record.specs.Standing.{dummy, isDummy, mayStand}
-use Rattle.record.specs.Order.{noLater}
+use Rattle.record.specs.Order.{before}
 use Rattle.record.specs.Many.{reals}
 use Rattle.record.proofs.StandingLaws.{is-dummy, dummy-stands, proper-stands}
 use Rattle.record.proofs.ManyLaws.{each-every}
@@ -23,7 +23,8 @@ use Rattle.path.specs.Sizes.{leavesOf}
 use Rattle.path.specs.Path.{root as theRoot}
 use Rattle.path.specs.Layout.{Contents}
 use Rattle.parts.specs.declared.Parts.{Parts}
-use Rattle.judge.specs.BadParts.{stampOf, oddLeast, badParts}
+use Rattle.parts.specs.Parts.{ruleOf}
+use Rattle.judge.specs.BadParts.{oddLeast, badParts}
 use Rattle.judge.proofs.FitLaws.{fit-parts}
 use Rattle.tree.specs.Tree.{Tree, InTree, treeOf}
 use Rattle.tree.proofs.PathFetch.{tree-root}
@@ -50,15 +51,15 @@ few-reals live (more {x} {xs} f o) all = elim (dichotomy (isDummy x)) [
 ]
 
 -- ---- a least record as it should be
-odd-live : (leaves : ℕ) (next : Stamp) (c : ℕ) (x : Record) → isDummy x ≡ false → mayStand leaves next x ≡ true → 1 ≤ c
-    → oddLeast leaves next c x ≡ false
+odd-live : (rule : Rule) (c : ℕ) (x : Record) → isDummy x ≡ false → mayStand rule x ≡ true → 1 ≤ c
+    → oddLeast rule c x ≡ false
 unfolding oddLeast
-odd-live leaves next c x real stands l = rw (real, ne-eqb c 0 (omega arith), stands)
+odd-live rule c x real stands l = rw (real, ne-eqb c 0 (omega arith), stands)
 
-odd-none : (leaves : ℕ) (next : Stamp) (c : ℕ) (x : Record) → isDummy x ≡ true → mayStand leaves next x ≡ true → c ≡ 0
-    → oddLeast leaves next c x ≡ false
+odd-none : (rule : Rule) (c : ℕ) (x : Record) → isDummy x ≡ true → mayStand rule x ≡ true → c ≡ 0
+    → oddLeast rule c x ≡ false
 unfolding oddLeast
-odd-none leaves next c x void stands e = rw (void, le-ltb 0 c (omega arith), stands)
+odd-none rule c x void stands e = rw (void, le-ltb 0 c (omega arith), stands)
 
 module _ (p : Parts) (root : List Record) (tree : List ℕ) (live : List Record) (H : Heap p root tree live) where
   abbrev s : Sizes
@@ -76,7 +77,7 @@ module _ (p : Parts) (root : List Record) (tree : List ℕ) (live : List Record)
   abbrev T : Tree
   T = treeOf (s .z) (take (s .r) root) least tree
 
-  abbrev g : Good s (stampOf t) T live
+  abbrev g : Good s (ruleOf p) T live
   g = H .good
 
   holds : T theRoot ≡ record { least = least; slots = take (s .r) root }
@@ -97,24 +98,24 @@ module _ (p : Parts) (root : List Record) (tree : List ℕ) (live : List Record)
 
   -- the least record is a live event, or there is none
   pub least-live : 1 ≤ c → List·Memᴰ least live
-  least-live l = rw root-least at (root-live s (stampOf t) T live g (omega (arith, H .count)))
+  least-live l = rw root-least at (root-live s (ruleOf p) T live g (omega (arith, H .count)))
 
   pub least-real : 1 ≤ c → isDummy least ≡ false
-  least-real l = live-real s (stampOf t) T live g least (least-live l)
+  least-real l = live-real s (ruleOf p) T live g least (least-live l)
 
   pub least-none : c ≡ 0 → least ≡ dummy
-  least-none e = sym root-least ∙ root-none s (stampOf t) T live g (omega (arith, H .count))
+  least-none e = sym root-least ∙ root-none s (ruleOf p) T live g (omega (arith, H .count))
 
-  odd : oddLeast (leavesOf (s .h)) (stampOf t) c least ≡ false
+  odd : oddLeast (ruleOf p) c least ≡ false
   odd = elim (decLe 1 c) [
     | yes l ↦
         let m = least-live l in
-        odd-live _ (stampOf t) c least (live-real s (stampOf t) T live g least m)
-        (proper-stands _ (stampOf t) least (live-proper s (stampOf t) T live g least m)) l
+        odd-live (ruleOf p) c least (live-real s (ruleOf p) T live g least m)
+        (proper-stands (ruleOf p) least (live-proper s (ruleOf p) T live g least m)) l
     | no l ↦
         let e : c ≡ 0 = omega arith in
         let void = least-none e in
-        odd-none _ (stampOf t) c least (ap isDummy void ∙ is-dummy) (rw void (dummy-stands _ (stampOf t))) e
+        odd-none (ruleOf p) c least (ap isDummy void ∙ is-dummy) (rw void (dummy-stands (ruleOf p))) e
   ]
 
   pub heap-card : badParts p root ≡ false
@@ -123,8 +124,8 @@ module _ (p : Parts) (root : List Record) (tree : List ℕ) (live : List Record)
         sizes = H .sizes;
         spent = H .spent;
         live = (H .most, H .begun);
-        slots = each-every _ (take (s .r) root) (λ x m. ⊎-elim (λ e. rw e (dummy-stands _ (stampOf t)))
-            (λ i. proper-stands _ (stampOf t) x (live-proper s (stampOf t) T live g x i)) (slot x m));
+        slots = each-every _ (take (s .r) root) (λ x m. ⊎-elim (λ e. rw e (dummy-stands (ruleOf p)))
+            (λ i. proper-stands (ruleOf p) x (live-proper s (ruleOf p) T live g x i)) (slot x m));
         past = H .past;
         stamps = rw (← root-slots) (g .housed .once theRoot in-root);
         few = rw (H .count) (few-reals live (test-once _ (rw (← root-slots) (g .housed .once theRoot in-root)))
@@ -133,9 +134,9 @@ module _ (p : Parts) (root : List Record) (tree : List ℕ) (live : List Record)
         first = each-every _ (take (s .r) root) (λ x m. later x m);
       })
     where
-      later : (x : Record) → List·Memᴰ x (take (s .r) root) → (isDummy x || noLater least x) ≡ true
+      later : (x : Record) → List·Memᴰ x (take (s .r) root) → (isDummy x || before (ruleOf p) least x) ≡ true
       later x m =
-          let e : noLater least x ≡ true = rw root-least at (root-later s (stampOf t) T live g theRoot in-root x (rw root-slots m)) in
+          let e : before (ruleOf p) least x ≡ true = rw root-least at (root-later s (ruleOf p) T live g theRoot in-root x (rw root-slots m)) in
           elim (dichotomy (isDummy x)) [
             | inl f ↦ rw (f, e)
             | inr v ↦ rw v

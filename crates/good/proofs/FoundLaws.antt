@@ -25,7 +25,7 @@ use Rattle.clearing.specs.Removal.{named, found}
 use Rattle.gather.specs.Shown.{wayShown}
 use Rattle.clearing.proofs.RemovalLaws.{member-found, found-passes}
 use Rattle.parts.specs.declared.Parts.{Parts}
-use Rattle.judge.specs.BadParts.{stampOf}
+use Rattle.parts.specs.Parts.{ruleOf}
 use Rattle.sound.specs.Fetched.{pathFetched, firstFetched, secondFetched}
 use Rattle.damage.specs.Damaged.{pathDamaged, pairDamaged}
 use Rattle.copies.specs.Copy.{fetched}
@@ -78,11 +78,11 @@ module _ (p : Parts) (root : List Record) (tree words : List ℕ) (live : List R
   heap-full = omega (arith, H .places, in-range s (H .sizes) .roots .1)
 
   -- FindMin and ExtractMin answer the least of all live events
-  pub heap-least : least ≡ smallest live
-  heap-least = sym (root-least p root tree live H) ∙ root-smallest s (stampOf t) T live (H .good)
+  pub heap-least : least ≡ smallest (ruleOf p) live
+  heap-least = sym (root-least p root tree live H) ∙ root-smallest s (ruleOf p) T live (H .good)
 
   pub least-inside : 1 ≤ c → least .label .0 < leavesOf (s .h)
-  least-inside l = live-label s (stampOf t) T live (H .good) least (least-live p root tree live H l)
+  least-inside l = live-label s (ruleOf p) T live (H .good) least (least-live p root tree live H l)
 
   module _ (q : Leaf) (inside : q .0 < leavesOf (s .h)) where
     abbrev way : List Record
@@ -92,9 +92,9 @@ module _ (p : Parts) (root : List Record) (tree words : List ℕ) (live : List R
     way-is = path-way (s .h) (s .z) (s .r) q inside root least tree words (H .words)
 
     pub heap-path :
-        pathDamaged (s .h) (s .r) (stampOf t) least (pathFetched (s .h) (s .z) q (fetched (s .z) tree (pathList (s .h) q) words)) way ≡ false
+        pathDamaged (s .h) (s .r) (ruleOf p) least (pathFetched (s .h) (s .z) q (fetched (s .z) tree (pathList (s .h) q) words)) way ≡ false
     heap-path =
-        path-undamaged s q inside root heap-full least tree words (H .words) live (stampOf t) (H .good) (in-range s (H .sizes) .tree .height .0)
+        path-undamaged s q inside root heap-full least tree words (H .words) live (ruleOf p) (H .good) (in-range s (H .sizes) .tree .height .0)
 
     module _ (stamp : Stamp) where
       -- on the way there is a record with this label and stamp exactly where there is one among the live events
@@ -103,7 +103,7 @@ module _ (p : Parts) (root : List Record) (tree words : List ℕ) (live : List R
       found-as-live = elim (dichotomy (found (named q stamp) way)) [
         | inr t′ ↦
             let there = rw way-is at t′ in
-            let m = found-live s q inside T live (stampOf t) (stampOf t) (omega arith) (H .good) (named q stamp) stamp (named-picks q stamp) there in
+            let m = found-live s q inside T live (ruleOf p) (H .good) (named q stamp) stamp (named-picks q stamp) there in
             t′ ∙ sym (member-found (named q stamp) m (found-passes (named q stamp) (wayOf (s .h) q T) dummy there))
         | inl f′ ↦ elim (dichotomy (found (named q stamp) live)) [
           | inl f ↦ f′ ∙ sym f
@@ -113,7 +113,7 @@ module _ (p : Parts) (root : List Record) (tree words : List ℕ) (live : List R
               let passes = found-passes (named q stamp) live dummy t″ in
               let n = named-is q stamp x passes in
               absurd (true≢false (sym (rw (← way-is) at
-              (live-found s q inside T live (stampOf t) (stampOf t) (omega arith) (H .good) (named q stamp) stamp (named-picks q stamp) x m
+              (live-found s q inside T live (ruleOf p) (H .good) (named q stamp) stamp (named-picks q stamp) x m
               (n .1) passes)) ∙ f′))
         ]
       ]
@@ -123,12 +123,12 @@ module _ (p : Parts) (root : List Record) (tree words : List ℕ) (live : List R
       → found f (wayShown (s .h) (s .z) (s .r) root (fetched (s .z) tree (pathList (s .h) (least .label)) words) 0) ≡ true
   extract-found l f picks own =
       rw (way-is (least .label) (least-inside l))
-      (live-found s (least .label) (least-inside l) T live (stampOf t) (stampOf t) (omega arith) (H .good) f (least .stamp) picks least
+      (live-found s (least .label) (least-inside l) T live (ruleOf p) (H .good) f (least .stamp) picks least
       (least-live p root tree live H l) refl own)
 
   module _ (first second : Leaf) (halves : Halves (s .h) first second) where
     pub heap-pair :
-        pairDamaged (s .h) (s .r) (stampOf t) least (firstFetched (s .h) (s .z) first (fetched (s .z) tree (pairList (s .h) first second) words))
+        pairDamaged (s .h) (s .r) (ruleOf p) least (firstFetched (s .h) (s .z) first (fetched (s .z) tree (pairList (s .h) first second) words))
         (secondFetched (s .h) (s .z) second (fetched (s .z) tree (pairList (s .h) first second) words))
         (wayShown (2 * s .h) (s .z) (s .r) root (fetched (s .z) tree (pairList (s .h) first second) words) 0) ≡ false
-    heap-pair = pair-undamaged s first second halves root heap-full least tree words (H .words) live (stampOf t) (H .good)
+    heap-pair = pair-undamaged s first second halves root heap-full least tree words (H .words) live (ruleOf p) (H .good)

@@ -10,8 +10,9 @@ use lib.ListN.{length, take, drop, replicate, length-replicate, replicate-append
 use lib.Seq.{take-at, drop-at}
 use Rattle.record.specs.declared.Bucket.{Bucket}
 use Rattle.record.specs.declared.Record.{Record}
-use Rattle.record.specs.Standing.{dummy, isDummy}
-use Rattle.record.specs.Order.{noLater, smallest}
+use Rattle.record.specs.declared.Rule.{Rule}
+use Rattle.record.specs.Standing.{ruleFor, dummy, isDummy}
+use Rattle.record.specs.Order.{before, smallest}
 use Rattle.record.specs.Many.{every, stampTwice}
 use Rattle.record.proofs.StandingLaws.{is-dummy}
 use Rattle.record.proofs.ManyLaws.{each-every}
@@ -22,7 +23,6 @@ use Rattle.path.specs.Path.{bucket, number, root as theRoot, lowerChild, upperC
 use Rattle.path.specs.Layout.{Contents, freshTree}
 use Rattle.path.proofs.SizesLaws.{in-range}
 use Rattle.parts.specs.Parts.{partsFor}
-use Rattle.judge.specs.BadParts.{stampOf}
 use Rattle.copies.proofs.LayoutLaws.{in-tree}
 use Rattle.copies.proofs.ContentsLaws.{fresh-length, fresh-bucket}
 use Rattle.tree.specs.Tree.{Tree, InTree, treeOf}
@@ -44,8 +44,8 @@ dummies-once : (n : ℕ) → Once (replicate n dummy)
 dummies-once zero = none
 dummies-once (suc n) = more (λ y m s. dummy-shares s) (dummies-once n)
 
-dummies-least : (xs : List Record) → ((x : Record) → List·Memᴰ x xs → x ≡ dummy) → smallest xs ≡ dummy
-dummies-least xs all = smallest-has noLater (λ x. x ≡ dummy) xs refl all
+dummies-least : (rule : Rule) (xs : List Record) → ((x : Record) → List·Memᴰ x xs → x ≡ dummy) → smallest rule xs ≡ dummy
+dummies-least rule xs all = smallest-has (before rule) (λ x. x ≡ dummy) xs refl all
 
 module _ (n r : ℕ) (l : r ≤ n) where
   split : replicate n dummy ≡ replicate r dummy ++ replicate (n - r) dummy
@@ -92,10 +92,11 @@ module _ (s : Sizes) where
         (List·Memᴰ·cases-cons (rw (children-inner (s .h) T b inner) at m))
   ]
 
-  pub fresh-good : Good s (stampOf 0) (treeOf (s .z) (replicate (s .r) dummy) dummy (freshTree (s .h) (s .z))) []
+  pub fresh-good : Good s (ruleFor (leavesOf (s .h)) 0) (treeOf (s .z) (replicate (s .r) dummy) dummy (freshTree (s .h) (s .z))) []
   unfolding every stampTwice
   fresh-good =
       record {
+        leaves = refl;
         proper = refl;
         stamps = refl;
         housed = record {
@@ -106,7 +107,7 @@ module _ (s : Sizes) where
           apart = λ a b ta tb x y i j dx dy e.
               absurd (true≢false (sym is-dummy ∙ (rw (void a ta x i) at dx)));
         };
-        leasts = λ b t. least-at b t ∙ sym (dummies-least _ (λ x m. ⊎-elim (void b t x) (child-void b t x)
+        leasts = λ b t. least-at b t ∙ sym (dummies-least _ _ (λ x m. ⊎-elim (void b t x) (child-void b t x)
             (List·Memᴰ·append-cases (T b .slots) m)));
       }
 

@@ -2,13 +2,13 @@
 -- with the event. Assumes nothing.
 use Prim.Native.Nat.{ℕ, suc, _+_, _*_, _-_, _≤_, _<_}
 use mathlib.Core.Bool.{true, false}
-use mathlib.Core.List.{List, [], _∷_, _++_, append-assoc}
+use mathlib.Core.List.{List, [], _∷_, _++_, List·Memᴰ, append-assoc}
 use mathlib.Core.Path.{_≡_, refl, ap, _∙_}
 use native.Mathlib.Omega.{arith}
 use lib.ListN.{length, take}
 use Rattle.record.specs.declared.Leaf.{Leaf}
-use Rattle.record.specs.declared.Stamp.{Stamp}
 use Rattle.record.specs.declared.Record.{Record}
+use Rattle.record.specs.declared.Rule.{Rule}
 use Rattle.record.specs.Standing.{isDummy, isProper}
 use Rattle.path.specs.declared.sizes.Sizes.{Sizes}
 use Rattle.path.specs.Sizes.{leavesOf}
@@ -40,8 +40,8 @@ use Rattle.good.proofs.InsertLaws.{inserted-good, good-pair}
 use Rattle.tree.proofs.ShownLaws.{belowOf}
 
 module _ (s : Sizes) (first second : Leaf) (p : Halves (s .h) first second) (root : List Record) (full : s .r ≤ length root) (least : Record)
-    (tree words : List ℕ) (size : length tree ≡ treeWords (s .h) (s .z)) (live : List Record) (next : Stamp)
-    (g : Good s next (treeOf (s .z) (take (s .r) root) least tree) live) where
+    (tree words : List ℕ) (size : length tree ≡ treeWords (s .h) (s .z)) (live : List Record) (rule : Rule)
+    (g : Good s rule (treeOf (s .z) (take (s .r) root) least tree) live) where
   abbrev T : Tree
   T = treeOf (s .z) (take (s .r) root) least tree
 
@@ -72,11 +72,11 @@ module _ (s : Sizes) (first second : Leaf) (p : Halves (s .h) first second) (roo
       ∙ ap (λ (l : List Record). wayOf (s .h) first T ++ l) (pair-slots (s .h) (s .z) (s .r) first second p root least tree words size))
 
   pub pair-undamaged :
-      pairDamaged (s .h) (s .r) next least (firstFetched (s .h) (s .z) first (fetched (s .z) tree (pairList (s .h) first second) words))
+      pairDamaged (s .h) (s .r) rule least (firstFetched (s .h) (s .z) first (fetched (s .z) tree (pairList (s .h) first second) words))
       (secondFetched (s .h) (s .z) second (fetched (s .z) tree (pairList (s .h) first second) words))
       (wayShown (2 * s .h) (s .z) (s .r) root (fetched (s .z) tree (pairList (s .h) first second) words) 0) ≡ false
   pair-undamaged =
-      pair-alike (s .h) (s .r) (p .high) next least _ (firstFetched (s .h) (s .z) first ws) (secondFetched (s .h) (s .z) second ws)
+      pair-alike (s .h) (s .r) (p .high) rule least _ (firstFetched (s .h) (s .z) first ws) (secondFetched (s .h) (s .z) second ws)
       (shownBy (s .h) first T) (shownBy (s .h) second T)
       (record {
         leaf = refl;
@@ -94,14 +94,14 @@ module _ (s : Sizes) (first second : Leaf) (p : Halves (s .h) first second) (roo
             second-shows (s .h) (s .z) (s .r) first second p root least tree words size (d - 1) (omega arith) ∙ rw e;
         beside = λ d l m. second-beside (s .h) (s .z) (s .r) first second p root least tree words size d l m;
       })
-      ∙ rw both-ways (rw top at (good-pair s first second p T live next g))
+      ∙ rw both-ways (rw top at (good-pair s first second p T live rule g))
     where
       top : T theRoot .least ≡ least
       top = ap (λ (c : Contents). c .least) (tree-root (s .z) (take (s .r) root) least tree)
 
   -- ---- what finish leaves, stored
-  module _ (new : Record) (later : Stamp) (since : next .0 ≤ later .0) (stamp : new .stamp .0 ≡ next .0)
-      (proper : isProper (leavesOf (s .h)) later new ≡ true) (room : seek isDummy (s .r) way < s .r) (more : List ℕ) where
+  module _ (new : Record) (fresh : (y : Record) → List·Memᴰ y live → y .stamp .0 < new .stamp .0)
+      (proper : isProper rule new ≡ true) (room : seek isDummy (s .r) way < s .r) (more : List ℕ) where
     abbrev after₁ : List Record
     after₁ = firstAfter s first new way
 
@@ -109,16 +109,16 @@ module _ (s : Sizes) (first second : Leaf) (p : Halves (s .h) first second) (roo
     after₂ = secondAfter s first second new way slots₂
 
     abbrev beside : ℕ → Record
-    beside = secondBeside s first b₁ after₁ b₂
+    beside = secondBeside rule s first b₁ after₁ b₂
 
     abbrev after : Tree
     after =
-        treeOf (s .z) (take (s .r) (rooted (s .r) (rootSlots (s .r) after₂) root)) (leastAfter s second beside after₂)
+        treeOf (s .z) (take (s .r) (rooted (s .r) (rootSlots (s .r) after₂) root)) (leastAfter rule s second beside after₂)
         (stored (s .z) (pairList (s .h) first second .whole)
-        (pathWords (pathBuckets s first b₁ after₁ ++ pathBuckets s second beside after₂) ++ more) tree)
+        (pathWords (pathBuckets rule s first b₁ after₁ ++ pathBuckets rule s second beside after₂) ++ more) tree)
 
-    pub insertion-good : Good s later after (live ++ (new ∷ []))
+    pub insertion-good : Good s rule after (live ++ (new ∷ []))
     insertion-good =
         let room′ = rw (pair-way (s .h) (s .z) (s .r) first second p root least tree words size) at room in
-        alike-good s (inserted s first second new T) after (insertion-stored s first second p new root full least tree words size more)
-        later (live ++ (new ∷ [])) (inserted-good s first second p T live next g new later since stamp proper room′)
+        alike-good s (inserted rule s first second new T) after (insertion-stored rule s first second p new root full least tree words size more)
+        rule (live ++ (new ∷ [])) (inserted-good s first second p T live rule g new fresh proper room′)

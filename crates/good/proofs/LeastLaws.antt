@@ -13,6 +13,7 @@ use borrow.Author.Tests.{eqb-true, eqb-false, lt-ltb, le-ltb}
 use Rattle.record.specs.declared.Leaf.{Leaf}
 use Rattle.record.specs.declared.Bucket.{Bucket}
 use Rattle.record.specs.declared.Record.{Record}
+use Rattle.record.specs.declared.Rule.{Rule}
 use Rattle.record.specs.Order.{leastOf}
 use Rattle.path.specs.declared.sizes.Sizes.{Sizes}
 use Rattle.path.specs.Sizes.{leavesOf}
@@ -57,17 +58,17 @@ children-in-order T p b l e = (elim (eqb (number b % 2) 0) as (λ c. eqb (number
     ]) refl
 
 -- ---- a path mended
-module _ (s : Sizes) (q : Leaf) (inside : q .0 < leavesOf (s .h)) (T U : Tree) (after : List Record)
-    (lays : Lays (s .h) q (bucketAfter s q (besideOf (s .h) q T) after) T U) where
+module _ (rule : Rule) (s : Sizes) (q : Leaf) (inside : q .0 < leavesOf (s .h)) (T U : Tree) (after : List Record)
+    (lays : Lays (s .h) q (bucketAfter rule s q (besideOf (s .h) q T) after) T U) where
   abbrev below : ℕ → List Record
-  below j = kids (s .h) q (slotsAt (s .r) (s .z) after) (besideOf (s .h) q T) j
+  below j = kids rule (s .h) q (slotsAt (s .r) (s .z) after) (besideOf (s .h) q T) j
 
   sibling-kept : (d : ℕ) → 1 ≤ d → d ≤ s .h → U (siblingOf (pathBucket (s .h) q d)) .least ≡ besideOf (s .h) q T d
   sibling-kept d l m =
       ap (λ (c : Contents). c .least)
       (lays .off _ (λ o. sibling-off (s .h) q inside d l m (o .level) (o .within) (ap number (o .is))))
 
-  on-least : (d : ℕ) → d ≤ s .h → U (pathBucket (s .h) q d) .least ≡ leastOf (levelOf (s .r) (s .z) after d) (below (s .h - d))
+  on-least : (d : ℕ) → d ≤ s .h → U (pathBucket (s .h) q d) .least ≡ leastOf rule (levelOf (s .r) (s .z) after d) (below (s .h - d))
   on-least d l = ap (λ (c : Contents). c .least) (lays .on d l)
 
   kids-are : (d : ℕ) → d ≤ s .h → below (s .h - d) ≡ childrenIn (s .h) U (pathBucket (s .h) q d)
@@ -90,12 +91,12 @@ module _ (s : Sizes) (q : Leaf) (inside : q .0 < leavesOf (s .h)) (T U : Tree) (
         ∙ sym (children-inner (s .h) U (pathBucket (s .h) q d) (omega (arith, band, pow-mono {i = suc d} {j = s .h} next))))
   ]
 
-  on-true : (d : ℕ) → d ≤ s .h → LeastTrue (s .h) U (pathBucket (s .h) q d)
+  on-true : (d : ℕ) → d ≤ s .h → LeastTrue rule (s .h) U (pathBucket (s .h) q d)
   on-true d l =
       let slots = ap (λ (c : Contents). c .slots) (lays .on d l) in
       on-least d l ∙ rw (slots, kids-are d l)
 
-  off-true : (b : Bucket) → InTree (s .h) b → OffPath (s .h) q b → LeastTrue (s .h) T b → LeastTrue (s .h) U b
+  off-true : (b : Bucket) → InTree (s .h) b → OffPath (s .h) q b → LeastTrue rule (s .h) T b → LeastTrue rule (s .h) U b
   off-true b t off true′ = elim (decLe (leavesOf (s .h)) (number b)) [
     | yes m ↦ rw (lays .off b off, children-leaf (s .h) U b m) (rw (children-leaf (s .h) T b m) at true′)
     | no m ↦
@@ -105,7 +106,7 @@ module _ (s : Sizes) (q : Leaf) (inside : q .0 < leavesOf (s .h)) (T U : Tree) (
         rw (lays .off b off, children-inner (s .h) U b inner, low, up) (rw (children-inner (s .h) T b inner) at true′)
   ]
 
-  pub mended-true : ((b : Bucket) → InTree (s .h) b → OffPath (s .h) q b → LeastTrue (s .h) T b) → (b : Bucket) → InTree (s .h) b
-      → LeastTrue (s .h) U b
+  pub mended-true : ((b : Bucket) → InTree (s .h) b → OffPath (s .h) q b → LeastTrue rule (s .h) T b) → (b : Bucket) → InTree (s .h) b
+      → LeastTrue rule (s .h) U b
   mended-true old b t =
       ⊎-elim (λ o. rw (o .is) (on-true (o .level) (o .within))) (λ o. off-true b t o (old b t o)) (path-or (s .h) q b)

@@ -14,8 +14,9 @@ use Rattle.record.specs.declared.Bucket.{Bucket}
 use Rattle.record.specs.declared.Leaf.{Leaf}
 use Rattle.record.specs.declared.Stamp.{Stamp}
 use Rattle.record.specs.declared.Record.{Record}
+use Rattle.record.specs.declared.Rule.{Rule}
 use Rattle.record.specs.Standing.{dummy, isDummy, isProper}
-use Rattle.record.specs.Order.{noLater, smallest, smallestBy}
+use Rattle.record.specs.Order.{before, smallest, smallestBy}
 use Rattle.record.proofs.StandingLaws.{proper-true, proper-not-dummy, known-below}
 use Rattle.record.proofs.ManyLaws.{every-each}
 use Rattle.record.proofs.OrderLaws.{ordered, smallest-low, smallest-in, dummy-after-proper}
@@ -39,18 +40,18 @@ stamp-names {x} {y} (more f o) (List·Memᴰ·tail m) (List·Memᴰ·head g) dx 
     absurd (f x m (record { one = rw g at dy; two = dx; stamp = rw g at (sym s) }))
 stamp-names (more f o) (List·Memᴰ·tail m) (List·Memᴰ·tail n) dx dy s = stamp-names o m n dx dy s
 
-module _ (s : Sizes) (next : Stamp) (T : Tree) (live : List Record) (g : Good s next T live) where
-  pub live-proper : (x : Record) → List·Memᴰ x live → isProper (leavesOf (s .h)) next x ≡ true
+module _ (s : Sizes) (rule : Rule) (T : Tree) (live : List Record) (g : Good s rule T live) where
+  pub live-proper : (x : Record) → List·Memᴰ x live → isProper rule x ≡ true
   live-proper x m = every-each _ (g .proper) m
 
   pub live-real : (x : Record) → List·Memᴰ x live → isDummy x ≡ false
-  live-real x m = proper-not-dummy _ next x (live-proper x m)
+  live-real x m = proper-not-dummy rule x (live-proper x m)
 
   pub live-label : (x : Record) → List·Memᴰ x live → x .label .0 < leavesOf (s .h)
-  live-label x m = proper-true _ next x (live-proper x m) .label
+  live-label x m = omega (arith, g .leaves, proper-true rule x (live-proper x m) .label)
 
-  pub live-stamp : (x : Record) → List·Memᴰ x live → x .stamp .0 < next .0
-  live-stamp x m = known-below next (x .stamp) (proper-true _ next x (live-proper x m) .stamp)
+  pub live-stamp : (x : Record) → List·Memᴰ x live → x .stamp .0 < rule .below .0
+  live-stamp x m = known-below rule (x .stamp) (proper-true rule x (live-proper x m) .stamp)
 
   -- a child's path goes through its parent
   parent-on : (l : Leaf) → l .0 < leavesOf (s .h) → (b c : Bucket) → 2 ≤ number c → number c / 2 ≡ number b → OnPath (s .h) l c → OnPath (s .h) l b
@@ -90,7 +91,7 @@ module _ (s : Sizes) (next : Stamp) (T : Tree) (live : List Record) (g : Good s 
         ⊎-elim (λ e. inl (g .leasts b t ∙ e))
         (λ m. ⊎-elim (λ i. g .housed .stands b t (T b .least) (Memᴰ·cast (g .leasts b t) i)) (children _ (g .leasts b t))
         (List·Memᴰ·append-cases (T b .slots) m))
-        (smallest-in noLater (T b .slots ++ childrenIn (s .h) T b))
+        (smallest-in (before rule) (T b .slots ++ childrenIn (s .h) T b))
 
   noted : (fuel : ℕ) (b : Bucket) → InTree (s .h) b → 2 * leavesOf (s .h) ≤ number b + fuel → Noted b (T b .least)
   noted zero b t f = absurd (omega (arith, t .most))
@@ -103,34 +104,34 @@ module _ (s : Sizes) (next : Stamp) (T : Tree) (live : List Record) (g : Good s 
   abbrev top : Record
   top = T root .least
 
-  slot-later : (b : Bucket) → InTree (s .h) b → (x : Record) → List·Memᴰ x (T b .slots) → noLater (T b .least) x ≡ true
-  slot-later b t x m = rw (g .leasts b t) (smallest-low noLater ordered (Memᴰ·append-left (childrenIn (s .h) T b) m))
+  slot-later : (b : Bucket) → InTree (s .h) b → (x : Record) → List·Memᴰ x (T b .slots) → before rule (T b .least) x ≡ true
+  slot-later b t x m = rw (g .leasts b t) (smallest-low (before rule) (ordered rule) (Memᴰ·append-left (childrenIn (s .h) T b) m))
 
   child-later : (b c : Bucket) → InTree (s .h) b → number b < leavesOf (s .h) → (c ≡ lowerChild b) ⊎ (c ≡ upperChild b)
-      → noLater (T b .least) (T c .least) ≡ true
+      → before rule (T b .least) (T c .least) ≡ true
   child-later b c t l e =
-      rw (g .leasts b t) (smallest-low noLater ordered (Memᴰ·append-right (T b .slots) (rw (children-inner (s .h) T b l)
+      rw (g .leasts b t) (smallest-low (before rule) (ordered rule) (Memᴰ·append-right (T b .slots) (rw (children-inner (s .h) T b l)
       (⊎-elim (λ i. List·Memᴰ·head (ap (λ (a : Bucket). T a .least) i))
       (λ i. List·Memᴰ·tail (List·Memᴰ·head (ap (λ (a : Bucket). T a .least) i))) e))))
 
-  climb : (fuel n : ℕ) → n ≤ fuel → 1 ≤ n → n < 2 * leavesOf (s .h) → noLater top (T (bucket n) .least) ≡ true
+  climb : (fuel n : ℕ) → n ≤ fuel → 1 ≤ n → n < 2 * leavesOf (s .h) → before rule top (T (bucket n) .least) ≡ true
   climb zero n f l m = absurd (omega arith)
   climb (suc fuel) n f l m = elim (decLe n 1) [
-    | yes k ↦ let e : n ≡ 1 = omega arith in rw e (ordered .refl top)
+    | yes k ↦ let e : n ≡ 1 = omega arith in rw e (ordered rule .refl top)
     | no k ↦
         let b = bucket (n / 2) in
         let t : InTree (s .h) b = record { some = omega arith; most = omega arith } in
-        ordered .trans (climb fuel (n / 2) (omega arith) (omega arith) (omega arith))
+        ordered rule .trans (climb fuel (n / 2) (omega arith) (omega arith) (omega arith))
         (child-later b (bucket n) t (omega arith) (elim (decLe n (2 * (n / 2))) [
           | yes i ↦ inl (ap bucket (omega arith))
           | no i ↦ inr (ap bucket (omega arith))
         ]))
   ]
 
-  pub root-later : (b : Bucket) → InTree (s .h) b → (x : Record) → List·Memᴰ x (T b .slots) → noLater (T root .least) x ≡ true
-  root-later b t x m = ordered .trans (climb (number b) (number b) (omega arith) (t .some) (t .most)) (slot-later b t x m)
+  pub root-later : (b : Bucket) → InTree (s .h) b → (x : Record) → List·Memᴰ x (T b .slots) → before rule (T root .least) x ≡ true
+  root-later b t x m = ordered rule .trans (climb (number b) (number b) (omega arith) (t .some) (t .most)) (slot-later b t x m)
 
-  pub live-later : (x : Record) → List·Memᴰ x live → noLater (T root .least) x ≡ true
+  pub live-later : (x : Record) → List·Memᴰ x live → before rule (T root .least) x ≡ true
   live-later x m = let p = g .housed .seated x m in root-later (p .0) (p .1) x (p .2)
 
   -- ---- the root's least record is the least of all live events
@@ -144,7 +145,7 @@ module _ (s : Sizes) (next : Stamp) (T : Tree) (live : List Record) (g : Good s 
       first [] all n e = omega arith
       first (x ∷ xs) all n e =
           let m = all x (List·Memᴰ·head refl) in
-          true≢false (sym (rw e at (live-later x m)) ∙ dummy-after-proper _ next x (live-proper x m))
+          true≢false (sym (rw e at (live-later x m)) ∙ dummy-after-proper rule x (live-proper x m))
 
   pub root-none : length live ≡ 0 → T root .least ≡ dummy
   root-none n = ⊎-elim (λ e. e) (λ r. absurd (empty live n (r .0))) (least-noted root root-in)
@@ -153,20 +154,20 @@ module _ (s : Sizes) (next : Stamp) (T : Tree) (live : List Record) (g : Good s 
       empty [] n m = List·Memᴰ·not-nil m
       empty (x ∷ xs) n m = omega arith
 
-  pub root-smallest : T root .least ≡ smallest live
+  pub root-smallest : T root .least ≡ smallest rule live
   unfolding smallestBy
   root-smallest = elim (decLe 1 (length live)) [
     | yes l ↦ same (root-live l)
     | no l ↦ root-none (omega arith) ∙ sym (none-smallest live (omega arith))
   ]
     where
-      none-smallest : (xs : List Record) → length xs ≡ 0 → smallest xs ≡ dummy
+      none-smallest : (xs : List Record) → length xs ≡ 0 → smallest rule xs ≡ dummy
       none-smallest [] n = refl
       none-smallest (x ∷ xs) n = absurd (omega arith)
 
-      same : List·Memᴰ (T root .least) live → T root .least ≡ smallest live
+      same : List·Memᴰ (T root .least) live → T root .least ≡ smallest rule live
       same m = ⊎-elim
-          (λ e. absurd (true≢false (sym (rw e at (smallest-low noLater ordered m)) ∙ dummy-after-proper _ next _ (live-proper _ m))))
+          (λ e. absurd (true≢false (sym (rw e at (smallest-low (before rule) (ordered rule) m)) ∙ dummy-after-proper rule _ (live-proper _ m))))
           (λ i. stamp-names (test-once live (g .stamps)) m i (live-real _ m) (live-real _ i)
-          (ap (λ (a : Stamp). a .0) (ordered .tie (live-later _ i) (smallest-low noLater ordered m))))
-          (smallest-in noLater live)
+          (ap (λ (a : Stamp). a .0) (ordered rule .tie (live-later _ i) (smallest-low (before rule) (ordered rule) m))))
+          (smallest-in (before rule) live)

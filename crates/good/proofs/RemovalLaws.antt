@@ -9,6 +9,7 @@ use lib.ListN.{length, take}
 use Rattle.record.specs.declared.Leaf.{Leaf}
 use Rattle.record.specs.declared.Stamp.{Stamp}
 use Rattle.record.specs.declared.Record.{Record}
+use Rattle.record.specs.declared.Rule.{Rule}
 use Rattle.path.specs.declared.sizes.Sizes.{Sizes}
 use Rattle.path.specs.Sizes.{leavesOf}
 use Rattle.path.specs.Path.{root as theRoot}
@@ -34,8 +35,8 @@ use Rattle.good.proofs.PickLaws.{Picks}
 use Rattle.good.proofs.WorkLaws.{taken-good, absent-good}
 
 module _ (s : Sizes) (q : Leaf) (inside : q .0 < leavesOf (s .h)) (root : List Record) (full : s .r ≤ length root) (least : Record)
-    (tree words : List ℕ) (size : length tree ≡ treeWords (s .h) (s .z)) (live : List Record) (next : Stamp)
-    (g : Good s next (treeOf (s .z) (take (s .r) root) least tree) live) where
+    (tree words : List ℕ) (size : length tree ≡ treeWords (s .h) (s .z)) (live : List Record) (rule : Rule)
+    (g : Good s rule (treeOf (s .z) (take (s .r) root) least tree) live) where
   abbrev T : Tree
   T = treeOf (s .z) (take (s .r) root) least tree
 
@@ -53,10 +54,10 @@ module _ (s : Sizes) (q : Leaf) (inside : q .0 < leavesOf (s .h)) (root : List R
 
   -- ---- Damaged is denied
   pub path-undamaged : 1 ≤ s .h
-      → pathDamaged (s .h) (s .r) next least (pathFetched (s .h) (s .z) q (fetched (s .z) tree (pathList (s .h) q) words))
+      → pathDamaged (s .h) (s .r) rule least (pathFetched (s .h) (s .z) q (fetched (s .z) tree (pathList (s .h) q) words))
       (wayShown (s .h) (s .z) (s .r) root (fetched (s .z) tree (pathList (s .h) q) words) 0) ≡ false
   path-undamaged high =
-      path-alike (s .h) (s .r) high next least way (pathFetched (s .h) (s .z) q ws) (shownBy (s .h) q T)
+      path-alike (s .h) (s .r) high rule least way (pathFetched (s .h) (s .z) q ws) (shownBy (s .h) q T)
       (record {
         leaf = refl;
         shown = λ d l m.
@@ -67,24 +68,24 @@ module _ (s : Sizes) (q : Leaf) (inside : q .0 < leavesOf (s .h)) (root : List R
             let f : 0 + (d - 1) ≡ d - 1 = omega arith in
             rw f (path-sibling (s .h) (s .z) (s .r) q inside root least tree words size (d - 1) (omega arith) ∙ rw e);
       })
-      ∙ rw way-is (rw top at (good-path s next T live g q inside high))
+      ∙ rw way-is (rw top at (good-path s rule T live g q inside high))
     where
       top : T theRoot .least ≡ least
       top = ap (λ (c : Contents). c .least) (tree-root (s .z) (take (s .r) root) least tree)
 
   -- ---- what finish leaves, stored
-  module _ (f : Record → Bool) (stamp : Stamp) (picks : Picks f stamp) (later : Stamp) (since : next .0 ≤ later .0) (more : List ℕ) where
+  module _ (f : Record → Bool) (stamp : Stamp) (picks : Picks f stamp) (more : List ℕ) where
     abbrev after : Tree
     after =
-        treeOf (s .z) (take (s .r) (rooted (s .r) (removalRoot s q f way) root)) (removalLeast s q f sibs way)
-        (stored (s .z) (pathList (s .h) q .whole) (pathWords (removalBuckets s q f sibs way) ++ more) tree)
+        treeOf (s .z) (take (s .r) (rooted (s .r) (removalRoot s q f way) root)) (removalLeast rule s q f sibs way)
+        (stored (s .z) (pathList (s .h) q .whole) (pathWords (removalBuckets rule s q f sibs way) ++ more) tree)
 
-    pub removal-good : found f way ≡ true → Good s later after (without stamp live)
+    pub removal-good : found f way ≡ true → Good s rule after (without stamp live)
     removal-good e =
-        alike-good s (taken s q f T) after (removal-stored s q inside root full least tree words size f more)
-        later (without stamp live) (taken-good s q inside T live next later since g f stamp picks (rw way-is at e))
+        alike-good s (taken rule s q f T) after (removal-stored s q inside root full least tree words size f rule more)
+        rule (without stamp live) (taken-good s q inside T live rule g f stamp picks (rw way-is at e))
 
-    pub removal-absent : found f way ≡ false → Good s later after live
+    pub removal-absent : found f way ≡ false → Good s rule after live
     removal-absent e =
-        alike-good s (taken s q f T) after (removal-stored s q inside root full least tree words size f more)
-        later live (absent-good s q inside T live next later since g f stamp picks (rw way-is at e))
+        alike-good s (taken rule s q f T) after (removal-stored s q inside root full least tree words size f rule more)
+        rule live (absent-good s q inside T live rule g f stamp picks (rw way-is at e))

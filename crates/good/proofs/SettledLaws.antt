@@ -16,8 +16,7 @@ use Rattle.lists.specs.BucketList.{pathList, pairList}
 use Rattle.root.specs.Root.{rootFull}
 use Rattle.clearing.specs.Removal.{found}
 use Rattle.parts.specs.declared.Parts.{Parts}
-use Rattle.judge.specs.BadParts.{stampOf}
-use Rattle.settle.specs.Left.{Left, wordsLeft, pathWay, partsAfter, removal, insertion, removalDamaged, insertionDamaged}
+use Rattle.settle.specs.Left.{Left, wordsLeft, pathWay, partsAfter, ruleAfter, removal, insertion, removalDamaged, insertionDamaged}
 use Rattle.copies.specs.Copy.{fetched, stored}
 use Rattle.tree.proofs.HalvesLaws.{Halves}
 use Rattle.good.specs.Live.{without}
@@ -67,7 +66,7 @@ module _ (p : Parts) (root : List Record) (tree words : List ℕ) (live : List R
 
   -- ---- Insert
   module _ (first second : Leaf) (halves : Halves (s .h) first second) (new : Record) (stamp : new .stamp .0 ≡ t)
-      (proper : isProper (leavesOf (s .h)) (stampOf (suc t)) new ≡ true) (few : c < leavesOf (s .h)) (room : rootFull (s .r) root ≡ false) where
+      (proper : isProper (ruleAfter p) new ≡ true) (few : c < leavesOf (s .h)) (room : rootFull (s .r) root ≡ false) where
     abbrev ws₂ : List ℕ
     ws₂ = fetched (s .z) tree (pairList (s .h) first second) words
 

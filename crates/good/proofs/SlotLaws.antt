@@ -6,8 +6,8 @@ use mathlib.Core.Path.{_≡_, refl, ap}
 use native.Mathlib.Omega.{arith}
 use lib.ListN.{length, getD}
 use Rattle.record.specs.declared.Bucket.{Bucket}
-use Rattle.record.specs.declared.Stamp.{Stamp}
 use Rattle.record.specs.declared.Record.{Record}
+use Rattle.record.specs.declared.Rule.{Rule}
 use Rattle.record.specs.Standing.{dummy}
 use Rattle.path.specs.declared.sizes.Sizes.{Sizes}
 use Rattle.tree.specs.Tree.{Tree, InTree}
@@ -30,7 +30,7 @@ pub record Holds (s : Sizes) (T : Tree) (x : Record) (b : Bucket) (i : ℕ) : Ty
   pub place : i < length (T b .slots)
   pub there : getD (T b .slots) i dummy ≡ x
 
-module _ (s : Sizes) (next : Stamp) (T : Tree) (live : List Record) (g : Good s next T live) (x : Record) (m : List·Memᴰ x live) where
+module _ (s : Sizes) (rule : Rule) (T : Tree) (live : List Record) (g : Good s rule T live) (x : Record) (m : List·Memᴰ x live) where
   pub some-slot : (b : Bucket) × (i : ℕ) × Holds s T x b i
   some-slot =
       let p = g .housed .seated x m in
@@ -39,7 +39,7 @@ module _ (s : Sizes) (next : Stamp) (T : Tree) (live : List Record) (g : Good s 
 
   pub one-slot : (a b : Bucket) (i j : ℕ) → Holds s T x a i → Holds s T x b j → (a ≡ b) × (i ≡ j)
   one-slot a b i j p q =
-      let real = live-real s next T live g x m in
+      let real = live-real s rule T live g x m in
       let in-a : List·Memᴰ x (T a .slots) = rw (p .there) at (at-place (T a .slots) i (p .place)) in
       let in-b : List·Memᴰ x (T b .slots) = rw (q .there) at (at-place (T b .slots) j (q .place)) in
       let same : a ≡ b = g .housed .apart a b (p .within) (q .within) x x in-a in-b real real refl in

@@ -7,8 +7,8 @@ use mathlib.Core.Path.{_≡_}
 use lib.Dec.{ltb, eqb}
 use lib.ListN.{length}
 use Rattle.record.specs.declared.Bucket.{Bucket}
-use Rattle.record.specs.declared.Stamp.{Stamp}
 use Rattle.record.specs.declared.Record.{Record}
+use Rattle.record.specs.declared.Rule.{Rule}
 use Rattle.record.specs.Standing.{dummy, isDummy, isProper}
 use Rattle.record.specs.Order.{leastOf}
 use Rattle.record.specs.Many.{every, stampTwice}
@@ -46,12 +46,14 @@ unfoldable pub childrenIn : ℕ → Tree → Bucket → List Record
 childrenIn h T b = cond (ltb (number b) (leavesOf h)) (bothChildren T b) []
 
 -- "The least record is the smallest of its own slots and its children's least records, or the dummy"
-abbrev pub LeastTrue : ℕ → Tree → Bucket → Type 0
-LeastTrue h T b = T b .least ≡ leastOf (T b .slots) (childrenIn h T b)
+abbrev pub LeastTrue : Rule → ℕ → Tree → Bucket → Type 0
+LeastTrue rule h T b = T b .least ≡ leastOf rule (T b .slots) (childrenIn h T b)
 
--- A good heap: `next` is the stamp of the next insertion.
-pub record Good (s : Sizes) (next : Stamp) (T : Tree) (live : List Record) : Type 0 where
-  pub proper : every (isProper (leavesOf (s .h)) next) live ≡ true
+-- A good heap: `rule` says what is proper, and which record is smaller.
+pub record Good (s : Sizes) (rule : Rule) (T : Tree) (live : List Record) : Type 0 where
+  -- "label below N"
+  pub leaves : rule .leaves ≡ leavesOf (s .h)
+  pub proper : every (isProper rule) live ≡ true
   pub stamps : stampTwice live ≡ false
   pub housed : Housed s T live
-  pub leasts : (b : Bucket) → InTree (s .h) b → LeastTrue (s .h) T b
+  pub leasts : (b : Bucket) → InTree (s .h) b → LeastTrue rule (s .h) T b

@@ -11,7 +11,7 @@ use Rattle.record.specs.Many.{every}
 use Rattle.path.specs.Sizes.{leavesOf, inRange}
 use Rattle.path.specs.Layout.{treeWords}
 use Rattle.parts.specs.declared.Parts.{Parts}
-use Rattle.judge.specs.BadParts.{stampOf}
+use Rattle.parts.specs.Parts.{ruleOf}
 use Rattle.tree.specs.Tree.{treeOf}
 use Rattle.good.specs.Good.{Good}
 use Rattle.good.specs.Live.{Ascending}
@@ -30,4 +30,4 @@ pub record Heap (p : Parts) (root : List Record) (tree : List ℕ) (live : List 
   pub past : every isDummy (drop (p .sizes .r) root) ≡ true
   -- "The tree has exactly 4(Z+1)(2N-2) words."
   pub words : length tree ≡ treeWords (p .sizes .h) (p .sizes .z)
-  pub good : Good (p .sizes) (stampOf (p .t)) (treeOf (p .sizes .z) (take (p .sizes .r) root) (p .least) tree) live
+  pub good : Good (p .sizes) (ruleOf p) (treeOf (p .sizes .z) (take (p .sizes .r) root) (p .least) tree) live

@@ -112,13 +112,13 @@ module _
 
     -- and a round that is not refused leaves card and tree ready, with the events that are then live
     pub round-ready :
-        firstGiven (requestTable k w) ≡ 0 → Ready (roundDone k w tree .card) (roundTree k w tree) (liveAfter (k .t) live w)
+        firstGiven (requestTable k w) ≡ 0 → Ready (roundDone k w tree .card) (roundTree k w tree) (liveAfter (partsOf k) live w)
     unfolding roundDone roundTree treeLeft orRefused finishedBy
     round-ready none =
         let same = same-list (withWaiting k (For w)) k w refl refl in
         let passed : roundRefusal k w tree ≡ 0 = round-number ∙ none in
         rw passed
         (subst
-        (λ (l : BucketList). Ready (cardLeft (withWaiting k (For w)) (leftBy (withWaiting k (For w)) w (fetched (k .sizes .z) tree l wordPlaces))) (stored (k .sizes .z) (l .whole) (wordsLeft (leftBy (withWaiting k (For w)) w (fetched (k .sizes .z) tree l wordPlaces)) (fetched (k .sizes .z) tree l wordPlaces)) tree) (liveAfter (k .t) live w))
+        (λ (l : BucketList). Ready (cardLeft (withWaiting k (For w)) (leftBy (withWaiting k (For w)) w (fetched (k .sizes .z) tree l wordPlaces))) (stored (k .sizes .z) (l .whole) (wordsLeft (leftBy (withWaiting k (For w)) w (fetched (k .sizes .z) tree l wordPlaces)) (fetched (k .sizes .z) tree l wordPlaces)) tree) (liveAfter (partsOf k) live w))
         same
         (finish-ready (withWaiting k (For w)) tree wordPlaces live (begin-ready k tree live w r none) w refl word))

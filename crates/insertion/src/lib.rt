@@ -11,6 +11,7 @@ ghost use Rattle.settle.specs.Settled.{Settles, Writes};
 ghost use Rattle.settle.specs.Room.{InsertionRoom};
 ghost use Rattle.insertion.specs.Store.{PairStoreRoom};
 use parts::Parts;
+use path::ROOT_PLACES;
 use path::Sizes;
 use record::Leaf;
 use record::Record;
@@ -45,7 +46,7 @@ fn write_insertion(
 // For crates above: the record takes its place in the root, both paths are evicted and written; or nothing is changed.
 pub fn settle_insertion(
     words: &mut [u64],
-    root: [Record; 64],
+    root: [Record; ROOT_PLACES],
     parts: Parts,
     first: Leaf,
     second: Leaf,

@@ -8,23 +8,24 @@ use lib.ListN.{take, drop}
 use borrow.Author.Tests.{ltb-false, le-ltb, not-false}
 use Rattle.record.specs.declared.Record.{Record}
 use Rattle.record.specs.Standing.{isDummy, mayStand}
-use Rattle.record.specs.Order.{noLater}
+use Rattle.record.specs.Order.{before}
 use Rattle.record.specs.Many.{every, reals, stampTwice}
 use Rattle.path.specs.Sizes.{leavesOf, inRange}
 use Rattle.parts.specs.declared.Parts.{Parts}
+use Rattle.parts.specs.Parts.{ruleOf}
 use Rattle.root.specs.Root.{strangeSlot, usedPast, stampShared, rootRecords, greaterThanSome}
-use Rattle.judge.specs.BadParts.{stampOf, badSizes, overSpent, overLive, badRoot, badLeast, badParts, oddLeast}
+use Rattle.judge.specs.BadParts.{badSizes, overSpent, overLive, badRoot, badLeast, badParts, oddLeast}
 
 pub record Fit (p : Parts) (root : List Record) : Type 0 where
   pub sizes : inRange (p .sizes) ≡ true
   pub spent : p .t ≤ p .sizes .t
   pub live : (p .c ≤ leavesOf (p .sizes .h)) × (p .c ≤ p .t)
-  pub slots : every (mayStand (leavesOf (p .sizes .h)) (stampOf (p .t))) (take (p .sizes .r) root) ≡ true
+  pub slots : every (mayStand (ruleOf p)) (take (p .sizes .r) root) ≡ true
   pub past : every isDummy (drop (p .sizes .r) root) ≡ true
   pub stamps : stampTwice (take (p .sizes .r) root) ≡ false
   pub few : reals (take (p .sizes .r) root) ≤ p .c
-  pub odd : oddLeast (leavesOf (p .sizes .h)) (stampOf (p .t)) (p .c) (p .least) ≡ false
-  pub first : every (λ x. isDummy x || noLater (p .least) x) (take (p .sizes .r) root) ≡ true
+  pub odd : oddLeast (ruleOf p) (p .c) (p .least) ≡ false
+  pub first : every (λ x. isDummy x || before (ruleOf p) (p .least) x) (take (p .sizes .r) root) ≡ true
 
 module _ (p : Parts) (root : List Record) where
   pub fit : badParts p root ≡ false → Fit p root

@@ -7,17 +7,17 @@ use lib.Dec.{ltb, leb}
 use lib.ListN.{length, take, drop}
 use borrow.Rule.Slice.PartAt.{part-to-end}
 use borrow.Author.Tests.{leb-true, leb-false, lt-ltb, le-ltb}
-use Rattle.record.specs.declared.Stamp.{Stamp}
 use Rattle.record.specs.declared.Record.{Record}
+use Rattle.record.specs.declared.Rule.{Rule}
 use Rattle.record.specs.Standing.{isDummy, mayStand}
-use Rattle.record.specs.Order.{noLater}
+use Rattle.record.specs.Order.{before}
 use Rattle.record.specs.Many.{every, reals, stampTwice}
 use Rattle.record.specs.Words.{records}
 use Rattle.record.proofs.WordsLaws.{records-take, records-drop}
-use Rattle.path.specs.Sizes.{leavesOf}
 use Rattle.parts.specs.declared.Parts.{Parts}
+use Rattle.parts.specs.Parts.{ruleOf}
 use Rattle.root.specs.Root.{strangeSlot, usedPast, stampShared, rootRecords, greaterThanSome, slotsFine}
-use Rattle.judge.specs.BadParts.{stampOf, badSizes, overSpent, overLive, badRoot, badLeast, badParts, oddLeast, rootFails}
+use Rattle.judge.specs.BadParts.{badSizes, overSpent, overLive, badRoot, badLeast, badParts, oddLeast, rootFails}
 
 not-leb : (a b : ℕ) → not (leb a b) ≡ ltb b a
 not-leb a b = (elim (leb a b) as (λ t. leb a b ≡ t → not t ≡ ltb b a) [
@@ -37,20 +37,17 @@ module _ (p : Parts) (root : List Record) where
   abbrev slots : List Record
   slots = take (p .sizes .r) root
 
-  abbrev n : ℕ
-  n = leavesOf (p .sizes .h)
-
   abbrev odd : Bool
-  odd = oddLeast n (stampOf (p .t)) (p .c) (p .least)
+  odd = oddLeast (ruleOf p) (p .c) (p .least)
 
   abbrev fails : Bool
-  fails = rootFails (p .sizes .r) root n (stampOf (p .t)) (p .c) (p .least)
+  fails = rootFails (p .sizes .r) root (ruleOf p) (p .c) (p .least)
 
   root-regroups : (badRoot p root || badLeast p root) ≡ (fails || odd)
   unfolding strangeSlot usedPast stampShared rootRecords greaterThanSome slotsFine
   root-regroups =
       rw (← not-leb (reals slots) (p .c))
-      (regroup (every (mayStand n (stampOf (p .t))) slots) (every (λ x. isDummy x || noLater (p .least) x) slots)
+      (regroup (every (mayStand (ruleOf p)) slots) (every (λ x. isDummy x || before (ruleOf p) (p .least) x) slots)
       (leb (reals slots) (p .c)) (usedPast (p .sizes .r) root) (stampShared (p .sizes .r) root) odd)
 
   -- BadCard, one test after the other
@@ -59,14 +56,14 @@ module _ (p : Parts) (root : List Record) where
   bad-in-turn = rw root-regroups
 
 -- what the pass over slots, places past them and stamps says of the root whose words are ws
-module _ (ws : List ℕ) (r n : ℕ) (next : Stamp) (c : ℕ) (least : Record) where
+module _ (ws : List ℕ) (r : ℕ) (rule : Rule) (c : ℕ) (least : Record) where
   abbrev bad : Bool
-  bad = rootFails r (records ws) n next c least
+  bad = rootFails r (records ws) rule c least
 
   -- the slots of the root, and the places past them
-  module _ (fine : Bool) (found : fine ≡ slotsFine n next least c (records (take (4 * r) ws))) where
-    slots-found : slotsFine n next least c (take r (records ws)) ≡ fine
-    slots-found = sym (found ∙ ap (slotsFine n next least c) (records-take ws r))
+  module _ (fine : Bool) (found : fine ≡ slotsFine rule least c (records (take (4 * r) ws))) where
+    slots-found : slotsFine rule least c (take r (records ws)) ≡ fine
+    slots-found = sym (found ∙ ap (slotsFine rule least c) (records-take ws r))
 
     pub slots-bad : not fine ≡ true → true ≡ bad
     slots-bad e = rw (slots-found, e)

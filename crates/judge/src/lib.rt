@@ -7,13 +7,12 @@ ghost use lib.ListN.{length};
 ghost use Rattle.record.specs.Words.{records};
 ghost use Rattle.judge.specs.BadParts.{oddLeast, rootFails, badParts};
 use parts::Parts;
-use path::leaves;
 use record::RECORD_WORDS;
 use record::Record;
-use record::Stamp;
+use record::Rule;
 
-fn is_least_odd(n: u64, next: Stamp, c: u64, least: Record) -> bool
-    ensures { λ r. ⌜ r ≡ oddLeast n next c least ⌝ }
+fn is_least_odd(rule: Rule, c: u64, least: Record) -> bool
+    ensures { λ r. ⌜ r ≡ oddLeast rule c least ⌝ }
 {
     if least.is_dummy() {
         return c > 0;
@@ -21,16 +20,16 @@ fn is_least_odd(n: u64, next: Stamp, c: u64, least: Record) -> bool
     if c == 0 {
         return true;
     }
-    !least.is_proper(n, next)
+    !least.is_proper(rule)
 }
 
 // What BadCard asks of the root, in one pass over its slots, one over the places past them, and the stamps.
-fn is_root_bad(root: &[u64], r: usize, n: u64, next: Stamp, c: u64, least: Record) -> bool
+fn is_root_bad(root: &[u64], r: usize, rule: Rule, c: u64, least: Record) -> bool
     requires { ⌜ (r ≤ 64) × (length (now root) ≡ 256) ⌝ }
-    ensures { λ b. ⌜ b ≡ rootFails r (records (now (root .entry))) n next c least ⌝ }
+    ensures { λ b. ⌜ b ≡ rootFails r (records (now (root .entry))) rule c least ⌝ }
 {
     let end = RECORD_WORDS * r;
-    if !root::slots_fine(&root[..end], n, next, least, c) {
+    if !root::slots_fine(&root[..end], rule, least, c) {
         return true;
     }
     if !root::all_dummies(&root[end..]) {
@@ -51,16 +50,16 @@ pub fn are_parts_bad(root: &[u64], parts: Parts) -> bool
     if parts.t > sizes.t {
         return true;
     }
-    let n = leaves(sizes.h);
-    if parts.c > n {
+    let rule = parts.rule();
+    if parts.c > rule.leaves {
         return true;
     }
     if parts.c > parts.t {
         return true;
     }
     let least = parts.least;
-    if is_root_bad(root, sizes.r as usize, n, Stamp(parts.t), parts.c, least) {
+    if is_root_bad(root, sizes.r as usize, rule, parts.c, least) {
         return true;
     }
-    is_least_odd(n, Stamp(parts.t), parts.c, least)
+    is_least_odd(rule, parts.c, least)
 }

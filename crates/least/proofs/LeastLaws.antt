@@ -7,25 +7,26 @@ use native.Mathlib.Omega.{arith}
 use lib.ListN.{length, take, drop, length-drop, drop-of-length-le}
 use lib.Seq.{length-take-le}
 use Rattle.record.specs.declared.Record.{Record}
+use Rattle.record.specs.declared.Rule.{Rule}
 use Rattle.record.specs.Words.{recordAt, records}
 use Rattle.record.specs.Order.{smaller, smallest, smallestBy}
 use Rattle.least.specs.Least.{slotsAt, over}
 use Rattle.way.proofs.WayLaws.{part-length, part-next, level-before}
 
 -- the smallest of some and of those that stand after them
-pub smallest-over : (xs ys : List Record) → smallest (xs ++ ys) ≡ over xs (smallest ys)
+pub smallest-over : (rule : Rule) (xs ys : List Record) → smallest rule (xs ++ ys) ≡ over rule xs (smallest rule ys)
 unfolding over smallestBy
-smallest-over [] ys = refl
-smallest-over (x ∷ xs) ys = ap (smaller x) (smallest-over xs ys)
+smallest-over rule [] ys = refl
+smallest-over rule (x ∷ xs) ys = ap (smaller rule x) (smallest-over rule xs ys)
 
 -- n records from a place on, of which those from k on have been looked at
-module _ (w : List ℕ) (from n : ℕ) (h : 4 * (from + n) ≤ length w) (last : Record) where
-  pub over-starts : last ≡ over (drop n (take n (drop from (records w)))) last
+module _ (rule : Rule) (w : List ℕ) (from n : ℕ) (h : 4 * (from + n) ≤ length w) (last : Record) where
+  pub over-starts : last ≡ over rule (drop n (take n (drop from (records w)))) last
   unfolding over
   over-starts = rw (drop-of-length-le (take n (drop from (records w))) {i = n} (omega (arith, part-length w from n h)))
 
-  pub over-turns : (k : ℕ) (least : Record) → 0 < k → k ≤ n → least ≡ over (drop k (take n (drop from (records w)))) last
-      → smaller (recordAt w (from + (k - 1))) least ≡ over (drop (k - 1) (take n (drop from (records w)))) last
+  pub over-turns : (k : ℕ) (least : Record) → 0 < k → k ≤ n → least ≡ over rule (drop k (take n (drop from (records w)))) last
+      → smaller rule (recordAt w (from + (k - 1))) least ≡ over rule (drop (k - 1) (take n (drop from (records w)))) last
   unfolding over
   over-turns k least p l e =
       let back : k - 1 + 1 ≡ k = omega arith in

@@ -3,6 +3,7 @@
 ghost use mathlib.Core.Path.{_≡_};
 ghost use Prim.Native.Nat.{_+_, _*_, _≤_};
 ghost use lib.ListN.{length, take, drop};
+ghost use Rattle.record.specs.declared.Rule.{Rule};
 ghost use Rattle.record.specs.Order.{smallest};
 ghost use Rattle.record.specs.Words.{records};
 ghost use Rattle.least.specs.Least.{over, inOrder};
@@ -13,7 +14,7 @@ use record::Record;
 // to the first, so that of two that tie the one that stands first is kept.
 pub fn least_over(w: &[u64], from: usize, n: usize, last: Record) -> Record
     requires { ⌜ 4 * (from + n) ≤ length (now w) ⌝ }
-    ensures { λ r. ⌜ r ≡ over (take n (drop from (records (now (w .entry))))) last ⌝ }
+    ensures { λ r. ⌜ ((rule : Rule) → r ≡ over rule (take n (drop from (records (now (w .entry))))) last) ⌝ }
 {
     let mut least = last;
     let mut k = n;
@@ -27,7 +28,7 @@ pub fn least_over(w: &[u64], from: usize, n: usize, last: Record) -> Record
 // For crates above: the smallest of the least records of a bucket and of its sibling, or the dummy. A tie takes the lower
 // of the two buckets, not the one whose path is worked on.
 pub fn kids_least(bucket: Bucket, own: Record, other: Record) -> Record
-    ensures { λ r. ⌜ r ≡ smallest (inOrder bucket own other) ⌝ }
+    ensures { λ r. ⌜ ((rule : Rule) → r ≡ smallest rule (inOrder bucket own other)) ⌝ }
 {
     if bucket.0 % 2 == 0 {
         return own.smaller(other.smaller(Record::DUMMY));

@@ -8,6 +8,7 @@ use lib.ListN.{length, take, drop, getD, length-drop}
 use lib.Seq.{length-take-le}
 use Rattle.record.specs.declared.Leaf.{Leaf}
 use Rattle.record.specs.declared.Record.{Record}
+use Rattle.record.specs.declared.Rule.{Rule}
 use Rattle.record.specs.Standing.{dummy}
 use Rattle.record.specs.Words.{records}
 use Rattle.path.specs.declared.sizes.Sizes.{Sizes}
@@ -18,8 +19,7 @@ use Rattle.sound.specs.Room.{Room}
 use Rattle.sound.specs.Fetched.{fetchedIn, firstFetched, secondFetched}
 use Rattle.damage.specs.Damaged.{pairDamaged}
 use Rattle.damage.proofs.FetchedLaws.{Alike, pair-alike}
-use Rattle.parts.specs.Parts.{partsFor}
-use Rattle.judge.specs.BadParts.{stampOf}
+use Rattle.parts.specs.Parts.{partsFor, ruleOf}
 use Rattle.shown.specs.PairShown.{belowFirst, PairShown}
 use Rattle.look.specs.Look.{PairLookRoom, PairLooks}
 
@@ -82,17 +82,17 @@ module _ (s : Sizes) (first second : Leaf) (ws w₀ beside₀ : List ℕ) (room 
           beside = λ d l k. below-at s ws (s .h - 1) (records two) (shown .second) d l k;
         }
 
-    pub pair-looks : (t c : ℕ) (least : Record) (k m : ℕ) (x : Bool) → k ≡ n → m ≡ n
-        → x ≡ pairDamaged (s .h) (s .r) (stampOf t) least (fetchedIn (s .z) first (take k ws) one)
+    pub pair-looks : (t c : ℕ) (least : Record) (rule : Rule) → rule ≡ ruleOf (partsFor s t c least) → (k m : ℕ) (x : Bool) → k ≡ n → m ≡ n
+        → x ≡ pairDamaged (s .h) (s .r) rule least (fetchedIn (s .z) first (take k ws) one)
         (fetchedIn (s .z) second (take m (drop n ws)) two) (records all)
         → PairLooks (partsFor s t c least) root ws first second w one (record { moved = moved; damaged = x })
-    pair-looks t c least k m x e f v =
+    pair-looks t c least rule told k m x e f v =
         record {
           way = shown .way;
           siblings = shown .first;
           counted = shown .counted;
           verdict =
-              v
-              ∙ pair-alike (s .h) (s .r) (room .sizes .height .0) (stampOf t) least (records all) _ _ _ _ (lent-first k e) (lent-second m f)
-              ∙ ap (pairDamaged (s .h) (s .r) (stampOf t) least (firstFetched (s .h) (s .z) first ws) (secondFetched (s .h) (s .z) second ws)) (shown .slots);
+              rw (← told) (v
+              ∙ pair-alike (s .h) (s .r) (room .sizes .height .0) rule least (records all) _ _ _ _ (lent-first k e) (lent-second m f)
+              ∙ ap (pairDamaged (s .h) (s .r) rule least (firstFetched (s .h) (s .z) first ws) (secondFetched (s .h) (s .z) second ws)) (shown .slots));
         }

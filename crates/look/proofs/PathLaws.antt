@@ -9,6 +9,7 @@ use lib.ListN.{length, take}
 use lib.Seq.{length-take-le}
 use Rattle.record.specs.declared.Leaf.{Leaf}
 use Rattle.record.specs.declared.Record.{Record}
+use Rattle.record.specs.declared.Rule.{Rule}
 use Rattle.record.specs.Standing.{dummy}
 use Rattle.record.specs.Words.{records}
 use Rattle.path.specs.declared.sizes.Sizes.{Sizes}
@@ -18,8 +19,7 @@ use Rattle.sound.specs.Room.{Room}
 use Rattle.sound.specs.Fetched.{fetchedIn, pathFetched}
 use Rattle.damage.specs.Damaged.{pathDamaged}
 use Rattle.damage.proofs.FetchedLaws.{Alike, path-alike}
-use Rattle.parts.specs.Parts.{partsFor}
-use Rattle.judge.specs.BadParts.{stampOf}
+use Rattle.parts.specs.Parts.{partsFor, ruleOf}
 use Rattle.shown.specs.PathShown.{PathShown}
 use Rattle.look.specs.Look.{PathLookRoom, PathLooks}
 
@@ -50,14 +50,14 @@ module _ (s : Sizes) (q : Leaf) (ws w₀ sibs₀ : List ℕ) (room : PathLookRoo
         beside = λ d l m. rw (shown .siblings) (siblings-at (s .z) ws (s .h) 0 (s .h) (d - 1) dummy (omega arith));
       }
 
-  pub path-looks : (t c : ℕ) (least : Record) (x : Bool)
-      → x ≡ pathDamaged (s .h) (s .r) (stampOf t) least (fetchedIn (s .z) q (take k ws) sibs) (records w)
+  pub path-looks : (t c : ℕ) (least : Record) (rule : Rule) → rule ≡ ruleOf (partsFor s t c least) → (x : Bool)
+      → x ≡ pathDamaged (s .h) (s .r) rule least (fetchedIn (s .z) q (take k ws) sibs) (records w)
       → PathLooks (partsFor s t c least) root ws q w sibs (record { moved = moved; damaged = x })
-  path-looks t c least x v =
+  path-looks t c least rule told x v =
       record {
         shown = shown;
         verdict =
-            v
-            ∙ path-alike (s .h) (s .r) (room .sizes .height .0) (stampOf t) least (records w) _ _ lent
-            ∙ ap (pathDamaged (s .h) (s .r) (stampOf t) least (pathFetched (s .h) (s .z) q ws)) (shown .way);
+            rw (← told) (v
+            ∙ path-alike (s .h) (s .r) (room .sizes .height .0) rule least (records w) _ _ lent
+            ∙ ap (pathDamaged (s .h) (s .r) rule least (pathFetched (s .h) (s .z) q ws)) (shown .way));
       }

@@ -3,10 +3,10 @@
 // Stands on `settle`, `shown`, `damage` and what is below.
 ghost use Rattle.look.specs.Look.{PathLookRoom, PathLooks, PairLookRoom, PairLooks};
 use parts::Parts;
+use path::ROOT_PLACES;
 use record::Leaf;
 use record::RECORD_WORDS;
 use record::Record;
-use record::Stamp;
 use settle::SIBLINGS_MOST;
 use settle::WAYS_MOST;
 use settle::path_words;
@@ -23,7 +23,7 @@ pub fn look_path(
     words: &[u64],
     w: &mut [u64],
     sibs: &mut [u64],
-    root: [Record; 64],
+    root: [Record; ROOT_PLACES],
     parts: Parts,
     leaf: Leaf,
 ) -> Looked
@@ -39,7 +39,7 @@ pub fn look_path(
         w,
         sizes,
         leaf,
-        Stamp(parts.t),
+        parts.rule(),
         parts.least,
     );
     Looked {
@@ -54,7 +54,7 @@ pub fn look_pair(
     words: &[u64],
     w: &mut [u64],
     beside: &mut [u64],
-    root: [Record; 64],
+    root: [Record; ROOT_PLACES],
     parts: Parts,
     first: Leaf,
     second: Leaf,
@@ -82,7 +82,7 @@ pub fn look_pair(
         sizes,
         first,
         second,
-        Stamp(parts.t),
+        parts.rule(),
         parts.least,
     );
     Looked {

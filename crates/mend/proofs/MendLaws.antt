@@ -11,6 +11,7 @@ use borrow.Rule.Slice.PartMut.{putMid, midOf, same-len-mid}
 use Rattle.record.specs.declared.Leaf.{Leaf}
 use Rattle.record.specs.declared.Bucket.{Bucket}
 use Rattle.record.specs.declared.Record.{Record}
+use Rattle.record.specs.declared.Rule.{Rule}
 use Rattle.record.specs.Order.{smallest, smallestBy}
 use Rattle.record.specs.Standing.{dummy}
 use Rattle.record.specs.Words.{words4, recordAt, records, wordsOf}
@@ -37,12 +38,12 @@ before-done old now done ys start end l k e =
 abbrev slots : Sizes → List ℕ → ℕ → List Record
 slots s w d = slotsAt (s .r) (s .z) (records w) d
 
-module _ (s : Sizes) (q : Leaf) (w beside : List ℕ) where
+module _ (rule : Rule) (s : Sizes) (q : Leaf) (w beside : List ℕ) where
   abbrev children : ℕ → List Record
-  children j = kids (s .h) q (slots s w) (besideAt (records beside)) j
+  children j = kids rule (s .h) q (slots s w) (besideAt (records beside)) j
 
   abbrev bucketAt : ℕ → Contents
-  bucketAt d = mendedAt (s .h) q (slots s w) (besideAt (records beside)) d
+  bucketAt d = mendedAt rule (s .h) q (slots s w) (besideAt (records beside)) d
 
 -- the levels below `level` are done: their buckets are laid, and `least` is the smallest of the children's least records
 pub record Mending (s : Sizes) (q : Leaf) (old w beside now : List ℕ) (level last end : ℕ) (least : Record) : Type 0 where
@@ -50,8 +51,8 @@ pub record Mending (s : Sizes) (q : Leaf) (old w beside now : List ℕ) (level l
   pub reached : level ≤ s .h
   pub behind : last ≡ 4 * (s .r + s .z * level)
   pub place : end ≡ level * bucketWords (s .z)
-  pub done : now ≡ take end old ++ pathWords (map (bucketAt s q w beside) (upFrom (suc level) (s .h - level)))
-  pub below : least ≡ smallest (children s q w beside (s .h - level))
+  pub done : (rule : Rule) → now ≡ take end old ++ pathWords (map (bucketAt rule s q w beside) (upFrom (suc level) (s .h - level)))
+  pub below : (rule : Rule) → least ≡ smallest rule (children rule s q w beside (s .h - level))
 
 -- the next bucket and its slots lie within the path and the way
 pub record Within (s : Sizes) (now w : List ℕ) (last end : ℕ) : Type 0 where
@@ -70,19 +71,19 @@ module _ (s : Sizes) (q : Leaf) (old w beside : List ℕ) (given : MendRoom s q 
         reached = omega arith;
         behind = given .slots;
         place = given .buckets;
-        done = rw (none, append-nil, take-all (length old) old (omega arith));
-        below = rw none;
+        done = λ rule. rw (none, append-nil, take-all (length old) old (omega arith));
+        below = λ rule. rw none;
       }
 
   module _ (now : List ℕ) (level last end : ℕ) (least : Record) (n : Mending s q old w beside now level last end least) where
-    pub mending-ends : level ≤ 0 → Mended s q (records w) (records beside) now least
-    mending-ends l =
+    pub mending-ends : level ≤ 0 → (rule : Rule) → Mended rule s q (records w) (records beside) now least
+    mending-ends l rule =
         let e : level ≡ 0 = omega arith in
         let none : end ≡ 0 = n .place ∙ rw e (omega arith) in
         let all : s .h - 0 ≡ s .h = omega arith in
         record {
-          words = n .done ∙ rw (none, e, all);
-          children = n .below ∙ rw (e, all);
+          words = n .done rule ∙ rw (none, e, all);
+          children = n .below rule ∙ rw (e, all);
         }
 
     module _ (p : 0 < level) where
@@ -126,10 +127,10 @@ module _ (s : Sizes) (q : Leaf) (old w beside : List ℕ) (given : MendRoom s q 
       -- the bucket of this level is laid, and its parent's children are known
       module _ (own other next : Record) (b : Bucket) (ys : List ℕ) where
         pub mending-turns :
-            own ≡ over (take (s .z) (records (take (last - (last - 4 * s .z)) (drop (last - 4 * s .z) w)))) least
+            ((rule : Rule) → own ≡ over rule (take (s .z) (records (take (last - (last - 4 * s .z)) (drop (last - 4 * s .z) w)))) least)
             → ys ≡ words4 own ++ take (last - (last - 4 * s .z)) (drop (last - 4 * s .z) w)
             → length ys ≡ length (midOf (end - 4 * s .z - 4) (end - (end - 4 * s .z - 4)) now)
-            → other ≡ recordAt beside (level - 1) → b ≡ pathBucket (s .h) q level → next ≡ smallest (inOrder b own other)
+            → other ≡ recordAt beside (level - 1) → b ≡ pathBucket (s .h) q level → ((rule : Rule) → next ≡ smallest rule (inOrder b own other))
             → Mending s q old w beside (putMid (end - 4 * s .z - 4) (end - (end - 4 * s .z - 4)) now ys) (level - 1)
             (last - 4 * s .z) (end - 4 * s .z - 4) next
         unfolding kids upFrom pathWords wordsOf lo
@@ -138,17 +139,18 @@ module _ (s : Sizes) (q : Leaf) (old w beside : List ℕ) (given : MendRoom s q 
             let up : suc (level - 1) ≡ level = omega arith in
             let more : s .h - (level - 1) ≡ suc (s .h - level) = omega (arith, n .reached) in
             let here : s .h - (s .h - level) ≡ level = omega (arith, n .reached) in
-            let least-is : own ≡ bucketAt s q w beside level .least =
-            eo ∙ rw (slots-records, slots-all, n .below, smallest-over) in
+            let least-is : (rule : Rule) → own ≡ bucketAt rule s q w beside level .least = λ rule.
+            eo rule ∙ rw (slots-records, slots-all, n .below rule, smallest-over) in
             let sibling = records-at beside (level - 1) dummy (omega (arith, given .siblings, n .reached)) in
-            let words-are : ys ≡ contentsWords (bucketAt s q w beside level) = ey ∙ rw (slots-words, least-is) in
+            let words-are : (rule : Rule) → ys ≡ contentsWords (bucketAt rule s q w beside level) = λ rule.
+            ey ∙ rw (slots-words, least-is rule) in
             record {
               room = same-len-mid start (end - start) now ys el ∙ n .room;
               reached = omega (arith, n .reached);
               behind = place;
               place = omega (arith, n .place, suc-mul (level - 1) (bucketWords (s .z)), ap (λ m. m * bucketWords (s .z)) up);
-              done =
-                  before-done old now _ ys start end (omega arith) (omega (arith, within .path, n .room)) (n .done)
-                  ∙ rw (up, more, words-are);
-              below = en ∙ rw (more, here, ek, least-is, eb, sibling);
+              done = λ rule.
+                  before-done old now _ ys start end (omega arith) (omega (arith, within .path, n .room)) (n .done rule)
+                  ∙ rw (up, more, words-are rule);
+              below = λ rule. en rule ∙ rw (more, here, ek, least-is rule, eb, sibling);
             }

@@ -6,6 +6,7 @@ use mathlib.Core.Path.{_≡_}
 use lib.ListN.{length, getD}
 use Rattle.record.specs.declared.Leaf.{Leaf}
 use Rattle.record.specs.declared.Record.{Record}
+use Rattle.record.specs.declared.Rule.{Rule}
 use Rattle.record.specs.Order.{smallest}
 use Rattle.record.specs.Standing.{dummy}
 use Rattle.path.specs.declared.sizes.Sizes.{Sizes}
@@ -24,9 +25,9 @@ abbrev pub besideAt : List Record → ℕ → Record
 besideAt beside d = getD beside (d - 1) dummy
 
 -- the buckets of a path in words, and the smallest of the least records of the root's children
-pub record Mended (s : Sizes) (q : Leaf) (way beside : List Record) (path : List ℕ) (least : Record) : Type 0 where
-  pub words : path ≡ pathWords (mended (s .h) q (slotsAt (s .r) (s .z) way) (besideAt beside))
-  pub children : least ≡ smallest (kids (s .h) q (slotsAt (s .r) (s .z) way) (besideAt beside) (s .h))
+pub record Mended (rule : Rule) (s : Sizes) (q : Leaf) (way beside : List Record) (path : List ℕ) (least : Record) : Type 0 where
+  pub words : path ≡ pathWords (mended rule (s .h) q (slotsAt (s .r) (s .z) way) (besideAt beside))
+  pub children : least ≡ smallest rule (kids rule (s .h) q (slotsAt (s .r) (s .z) way) (besideAt beside) (s .h))
 
 -- what is asked: sizes in their ranges, a leaf of the tree, and scratches as long as the path, the way and the siblings'
 -- least records

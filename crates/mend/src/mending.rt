@@ -4,6 +4,7 @@ ghost use mathlib.Core.Path.{_≡_};
 ghost use mathlib.Core.List.{_++_};
 ghost use Prim.Native.Nat.{_+_};
 ghost use lib.ListN.{length};
+ghost use Rattle.record.specs.declared.Rule.{Rule};
 ghost use Rattle.record.specs.Words.{words4, records};
 ghost use Rattle.mend.specs.Mended.{MendRoom, Mended};
 use path::Sizes;
@@ -25,7 +26,7 @@ fn write_bucket(part: &mut [u64], least: Record, slots: &[u64])
 // of the least records of the root's children. `beside` holds the siblings' least records from level 1 on.
 pub fn mend_path(path: &mut [u64], w: &[u64], beside: &[u64], sizes: Sizes, leaf: Leaf) -> Record
     requires { ⌜ MendRoom sizes leaf (now path) (now w) (now beside) ⌝ }
-    ensures { λ x. ⌜ Mended sizes leaf (records (now (w .entry))) (records (now (beside .entry))) (now (path .exit)) x ⌝ }
+    ensures { λ x. ⌜ ((rule : Rule) → Mended rule sizes leaf (records (now (w .entry))) (records (now (beside .entry))) (now (path .exit)) x) ⌝ }
 {
     let z = sizes.z as usize;
     let size = RECORD_WORDS * z;

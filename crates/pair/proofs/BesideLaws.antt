@@ -7,6 +7,7 @@ use native.Mathlib.Omega.{arith}
 use lib.Dec.{eqb}
 use Rattle.record.specs.declared.Leaf.{Leaf}
 use Rattle.record.specs.declared.Record.{Record}
+use Rattle.record.specs.declared.Rule.{Rule}
 use Rattle.path.specs.declared.sizes.Sizes.{Sizes}
 use Rattle.least.specs.Least.{slotsAt}
 use Rattle.mend.specs.Mended.{pathWords}
@@ -16,18 +17,18 @@ use Rattle.pair.specs.PairWork.{firstAfter, secondAfter, PairWorked}
 
 -- An Insert's first path: its sibling at level 1 is the second path, and is not looked at.
 pub pair-same :
-    (s : Sizes) (first second : Leaf) (new : Record) (b b′ beside₂ : ℕ → Record) (way slots₂ : List Record) (w path₁ path₂ : List ℕ) (x : Record)
+    (rule : Rule) (s : Sizes) (first second : Leaf) (new : Record) (b b′ beside₂ : ℕ → Record) (way slots₂ : List Record) (w path₁ path₂ : List ℕ) (x : Record)
     → 1 ≤ s .h → ((d : ℕ) → 2 ≤ d → d ≤ s .h → b d ≡ b′ d)
-    → PairWorked s first second new b beside₂ way slots₂ w path₁ path₂ x
-    → PairWorked s first second new b′ beside₂ way slots₂ w path₁ path₂ x
+    → PairWorked rule s first second new b beside₂ way slots₂ w path₁ path₂ x
+    → PairWorked rule s first second new b′ beside₂ way slots₂ w path₁ path₂ x
 unfolding pathBuckets leastAfter
-pair-same s first second new b b′ beside₂ way slots₂ w path₁ path₂ x high same p =
+pair-same rule s first second new b b′ beside₂ way slots₂ w path₁ path₂ x high same p =
     let slots = slotsAt (s .r) (s .z) (firstAfter s first new way) in
     let after₂ = secondAfter s first second new way slots₂ in
-    let top = top-same (s .h) first slots b b′ 2 same (omega arith) high in
+    let top = top-same rule (s .h) first slots b b′ 2 same (omega arith) high in
     record {
       after = p .after;
-      firstWords = p .firstWords ∙ ap pathWords (mended-same (s .h) first slots b b′ 2 same (omega arith));
-      secondWords = p .secondWords ∙ ap (λ (t : Record). pathWords (pathBuckets s second (λ d. cond (eqb d 1) t (beside₂ d)) after₂)) top;
-      least = p .least ∙ ap (λ (t : Record). leastAfter s second (λ d. cond (eqb d 1) t (beside₂ d)) after₂) top;
+      firstWords = p .firstWords ∙ ap pathWords (mended-same rule (s .h) first slots b b′ 2 same (omega arith));
+      secondWords = p .secondWords ∙ ap (λ (t : Record). pathWords (pathBuckets rule s second (λ d. cond (eqb d 1) t (beside₂ d)) after₂)) top;
+      least = p .least ∙ ap (λ (t : Record). leastAfter rule s second (λ d. cond (eqb d 1) t (beside₂ d)) after₂) top;
     }

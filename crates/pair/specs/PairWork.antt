@@ -8,6 +8,7 @@ use lib.Dec.{ltb, eqb}
 use lib.ListN.{length, set}
 use Rattle.record.specs.declared.Leaf.{Leaf}
 use Rattle.record.specs.declared.Record.{Record}
+use Rattle.record.specs.declared.Rule.{Rule}
 use Rattle.record.specs.Standing.{isDummy}
 use Rattle.record.specs.Words.{records}
 use Rattle.path.specs.declared.sizes.Sizes.{Sizes}
@@ -31,9 +32,9 @@ abbrev pub secondAfter : Sizes → Leaf → Leaf → Record → List Record → 
 secondAfter s first second new way slots₂ = evicted s second (rootSlots (s .r) (firstAfter s first new way) ++ slots₂)
 
 -- the least records beside the second path: its sibling at level 1 is the first path's bucket, `after` its evicted way
-module _ (s : Sizes) (first : Leaf) (beside₁ : ℕ → Record) (after : List Record) where
+module _ (rule : Rule) (s : Sizes) (first : Leaf) (beside₁ : ℕ → Record) (after : List Record) where
   abbrev pub topFirst : Record
-  topFirst = mendedAt (s .h) first (slotsAt (s .r) (s .z) after) beside₁ 1 .least
+  topFirst = mendedAt rule (s .h) first (slotsAt (s .r) (s .z) after) beside₁ 1 .least
 
   abbrev pub secondBeside : (ℕ → Record) → ℕ → Record
   secondBeside beside₂ d = cond (eqb d 1) topFirst (beside₂ d)
@@ -48,17 +49,17 @@ secondSiblings s ws d = siblingAt (s .z) ws (2 * s .h) (s .h - 1 + (d - 2))
 -- what the work on an Insert's two paths leaves in the scratches of the way and of each path's buckets, and its answer: the
 -- least records of both paths, evicted one after the other.
 pub record PairWorked
-    (s : Sizes) (first second : Leaf) (new : Record) (beside₁ beside₂ : ℕ → Record) (way slots₂ : List Record)
+    (rule : Rule) (s : Sizes) (first second : Leaf) (new : Record) (beside₁ beside₂ : ℕ → Record) (way slots₂ : List Record)
     (w path₁ path₂ : List ℕ) (x : Record) : Type 0 where
   pub after : records w ≡ secondAfter s first second new way slots₂
-  pub firstWords : path₁ ≡ pathWords (pathBuckets s first beside₁ (firstAfter s first new way))
+  pub firstWords : path₁ ≡ pathWords (pathBuckets rule s first beside₁ (firstAfter s first new way))
   pub secondWords :
       path₂
-      ≡ pathWords (pathBuckets s second (secondBeside s first beside₁ (firstAfter s first new way) beside₂)
+      ≡ pathWords (pathBuckets rule s second (secondBeside rule s first beside₁ (firstAfter s first new way) beside₂)
       (secondAfter s first second new way slots₂))
   pub least :
       x
-      ≡ leastAfter s second (secondBeside s first beside₁ (firstAfter s first new way) beside₂)
+      ≡ leastAfter rule s second (secondBeside rule s first beside₁ (firstAfter s first new way) beside₂)
       (secondAfter s first second new way slots₂)
 
 -- what is asked: the room of one path for each, and the fetched words of both

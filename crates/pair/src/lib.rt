@@ -1,9 +1,10 @@
 // Insert's work: document 01, "Insert puts the record, with stamp t, into the lowest dummy slot of the root, then evicts the
-// first path, then the second." Nothing is written but scratches. Stands on `record`, `path`, `gather` and `work`.
+// first path, then the second." Nothing is written but scratches. Stands on `record`, `path`, `root`, `gather` and `work`.
 mod seating;
 
 pub use seating::seat;
 ghost use Prim.Native.Nat.{_*_};
+ghost use Rattle.record.specs.declared.Rule.{Rule};
 ghost use Rattle.record.specs.Words.{records};
 ghost use Rattle.gather.specs.Shown.{slotsShown};
 ghost use Rattle.mend.specs.Mended.{besideAt};
@@ -28,7 +29,7 @@ pub fn work_pair(
     second: Leaf,
 ) -> Record
     requires { ⌜ PairRoom sizes first second (now «first_path») (now «second_path») (now w) (now beside) (now words) ⌝ }
-    ensures { λ x. ⌜ PairWorked sizes first second new (besideAt (records (now (beside .entry)))) (secondSiblings sizes (now (words .entry))) (records (now (w .entry))) (slotsShown (sizes .z) (now (words .entry)) (sizes .h) (sizes .h)) (now (w .exit)) (now («first_path» .exit)) (now («second_path» .exit)) x ⌝ }
+    ensures { λ x. ⌜ ((rule : Rule) → PairWorked rule sizes first second new (besideAt (records (now (beside .entry)))) (secondSiblings sizes (now (words .entry))) (records (now (w .entry))) (slotsShown (sizes .z) (now (words .entry)) (sizes .h) (sizes .h)) (now (w .exit)) (now («first_path» .exit)) (now («second_path» .exit)) x) ⌝ }
 {
     let h = sizes.h as usize;
     let r = sizes.r as usize;

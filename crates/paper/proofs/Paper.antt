@@ -2,7 +2,7 @@
 use mathlib.Core.List.{flatMap}
 use mathlib.Core.Path.{_≡_, refl}
 use Rattle.record.specs.Many.{every, reals, bears, stampTwice}
-use Rattle.record.specs.Order.{noLater, smallerBy, smallestBy}
+use Rattle.record.specs.Order.{before as earlier, smallerBy, smallestBy}
 use Rattle.record.specs.Standing.{same, isDummy, known, isProper, mayStand}
 use Rattle.record.specs.Words.{records, wordsOf}
 use Rattle.lists.specs.BucketList.{pairList, pathList, sum, wordsMoved}
@@ -42,7 +42,7 @@ use Rattle.paper.specs.Run.{startedDesk, given, stated}
 use Rattle.paper.specs.Table.{table}
 
 pub paper : given startedDesk table ≡ stated table
-unfolding flatMap every reals bears stampTwice noLater smallerBy smallestBy same isDummy known isProper mayStand
+unfolding flatMap every reals bears stampTwice earlier smallerBy smallestBy same isDummy known isProper mayStand
     records wordsOf pairList pathList sum wordsMoved pathBucket holds siblingOf upFrom path between treeIn inRange
     firstGiven strangeSlot usedPast stampShared rootRecords greaterThanSome rootFull seek fits movedTo pull pulls
     evictUp evict slotsAt inOrder kids named found removed wholeAt siblingAt siblingsShown slotsShown wayShown

@@ -17,7 +17,7 @@ use Rattle.parts.specs.declared.Parts.{Parts}
 use Rattle.pair.specs.PairWork.{firstSiblings, secondSiblings, PairWorked}
 use Rattle.pair.proofs.BesideLaws.{pair-same}
 use Rattle.settle.specs.declared.Settled.{Settled}
-use Rattle.settle.specs.Left.{Left, pathWay, lowerLeft, upperLeft, insertion, badLeft, pairBad, insertionDamaged}
+use Rattle.settle.specs.Left.{Left, ruleAfter, pathWay, lowerLeft, upperLeft, insertion, badLeft, pairBad, insertionDamaged}
 use Rattle.settle.specs.Settled.{unsettled, judged, Prepares}
 use Rattle.settle.proofs.PreparedLaws.{not-prepared, is-prepared}
 use Rattle.look.specs.declared.Looked.{Looked}
@@ -49,16 +49,16 @@ module _ (p : Parts) (root : List Record) (ws : List ℕ) (first second : Leaf) 
 
   -- what the work leaves
   module _ (high : 1 ≤ p .sizes .h) (w₁ one₀ two₀ one two : List ℕ) (x : Record)
-      (work : PairWorked (p .sizes) first second new (besideAt (records beside)) (secondSiblings (p .sizes) ws) (records w) (slotsShown (p .sizes .z) ws (p .sizes .h) (p .sizes .h)) w₁ one two x)
+      (work : PairWorked (ruleAfter p) (p .sizes) first second new (besideAt (records beside)) (secondSiblings (p .sizes) ws) (records w) (slotsShown (p .sizes .z) ws (p .sizes .h) (p .sizes .h)) w₁ one two x)
       (next : List Record) (saved : next ≡ take (p .sizes .r) (records w₁) ++ drop (p .sizes .r) root) (good : seen .damaged ≡ false) where
     abbrev Same : Type 0
-    Same = PairWorked (p .sizes) first second new (firstSiblings (p .sizes) ws) (secondSiblings (p .sizes) ws) (pathWay (p .sizes) root ws) (slotsShown (p .sizes .z) ws (p .sizes .h) (p .sizes .h)) w₁ one two x
+    Same = PairWorked (ruleAfter p) (p .sizes) first second new (firstSiblings (p .sizes) ws) (secondSiblings (p .sizes) ws) (pathWay (p .sizes) root ws) (slotsShown (p .sizes .z) ws (p .sizes .h) (p .sizes .h)) w₁ one two x
 
     same : Same
     same =
         let alike : (d : ℕ) → 2 ≤ d → d ≤ p .sizes .h → besideAt (records beside) d ≡ firstSiblings (p .sizes) ws d =
         λ d l m. below-at (p .sizes) ws 0 (records beside) (looked .siblings) d l m ∙ ap (siblingAt (p .sizes .z) ws (2 * p .sizes .h)) (zero-add (d - 2)) in
-        pair-same (p .sizes) first second new (besideAt (records beside)) (firstSiblings (p .sizes) ws) (secondSiblings (p .sizes) ws) (pathWay (p .sizes) root ws) (slotsShown (p .sizes .z) ws (p .sizes .h) (p .sizes .h)) w₁ one two x high alike (rw (looked .way) at work)
+        pair-same (ruleAfter p) (p .sizes) first second new (besideAt (records beside)) (firstSiblings (p .sizes) ws) (secondSiblings (p .sizes) ws) (pathWay (p .sizes) root ws) (slotsShown (p .sizes .z) ws (p .sizes .h) (p .sizes .h)) w₁ one two x high alike (rw (looked .way) at work)
 
     ready : one ++ two ≡ pathWords (left .buckets)
     unfolding insertion
@@ -92,7 +92,7 @@ module _ (p : Parts) (root : List Record) (ws : List ℕ) (first second : Leaf) 
         ready =
             λ g.
             let v : pairBad p root ws first second ≡ false = fetched-good g in
-            let a : one ≡ pathWords (lowerLeft (p .sizes) root ws first new) = rw v at (q .lower) in
-            let b : two ≡ pathWords (upperLeft (p .sizes) root ws first second new) = rw v at (q .upper) in
+            let a : one ≡ pathWords (lowerLeft p root ws first new) = rw v at (q .lower) in
+            let b : two ≡ pathWords (upperLeft p root ws first second new) = rw v at (q .upper) in
             rw (path-words-append, ← a, ← b);
       }

@@ -19,5 +19,5 @@ pub record PairPrepared
       out
       ≡ cond (insertionDamaged p root ws first second new) (unsettled p root)
       (settled (insertion p root ws first second new) (2 * (p .sizes .h - 1) * recordWords))
-  pub lower : one ≡ cond (pairBad p root ws first second) one₀ (pathWords (lowerLeft (p .sizes) root ws first new))
-  pub upper : two ≡ cond (pairBad p root ws first second) two₀ (pathWords (upperLeft (p .sizes) root ws first second new))
+  pub lower : one ≡ cond (pairBad p root ws first second) one₀ (pathWords (lowerLeft p root ws first new))
+  pub upper : two ≡ cond (pairBad p root ws first second) two₀ (pathWords (upperLeft p root ws first second new))

@@ -8,6 +8,7 @@ ghost use Rattle.path.specs.Layout.{bucketWords};
 ghost use Rattle.settle.specs.Room.{InsertionRoom};
 ghost use Rattle.prepare.specs.Prepared.{PairPrepared};
 use parts::Parts;
+use path::ROOT_PLACES;
 use record::Leaf;
 use record::RECORD_WORDS;
 use record::Record;
@@ -24,7 +25,7 @@ pub fn prepare_insertion(
     words: &[u64],
     one: &mut [u64],
     two: &mut [u64],
-    root: [Record; 64],
+    root: [Record; ROOT_PLACES],
     parts: Parts,
     first: Leaf,
     second: Leaf,

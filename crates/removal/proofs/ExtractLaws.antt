@@ -8,12 +8,11 @@ use native.Mathlib.Omega.{arith}
 use lib.ListN.{length}
 use Rattle.record.specs.declared.Record.{Record}
 use Rattle.record.specs.Standing.{same, isProper}
-use Rattle.path.specs.Sizes.{leavesOf}
 use Rattle.way.specs.Evict.{seek}
 use Rattle.clearing.specs.Removal.{named, found, removed}
 use Rattle.damage.proofs.Found.{shown-extract-by-name, shown-extract-found}
 use Rattle.parts.specs.declared.Parts.{Parts}
-use Rattle.judge.specs.BadParts.{stampOf}
+use Rattle.parts.specs.Parts.{ruleOf}
 use Rattle.settle.specs.Left.{pathWay, removal, pathBad, removalDamaged}
 use Rattle.settle.specs.Room.{RemovalRoom}
 
@@ -26,7 +25,7 @@ seek-same f g (suc n) (x ∷ xs) alike =
     rw (alike x (List·Memᴰ·head refl), seek-same f g n xs (λ y i. alike y (List·Memᴰ·tail i)))
 
 module _ (p : Parts) (root : List Record) (ws : List ℕ) (full : p .sizes .r ≤ length root)
-    (proper : isProper (leavesOf (p .sizes .h)) (stampOf (p .t)) (p .least) ≡ true) (room : RemovalRoom p (p .least .label) ws) where
+    (proper : isProper (ruleOf p) (p .least) ≡ true) (room : RemovalRoom p (p .least .label) ws) where
   abbrev m : Record
   m = p .least
 
@@ -42,7 +41,7 @@ module _ (p : Parts) (root : List Record) (ws : List ℕ) (full : p .sizes .r �
   found-same : pathBad p root ws (m .label) ≡ false → seek byName (length way) way ≡ seek (same m) (length way) way
   found-same good =
       seek-same byName (same m) _ way
-      (shown-extract-by-name (p .sizes .h) (p .sizes .z) (p .sizes .r) root ws full given (stampOf (p .t)) m (room .parts .sizes .height .0) proper good)
+      (shown-extract-by-name (p .sizes .h) (p .sizes .z) (p .sizes .r) root ws full given (ruleOf p) refl m (room .parts .sizes .height .0) proper good)
 
   left-same : pathBad p root ws (m .label) ≡ false → removal p root ws (m .label) byName ≡ removal p root ws (m .label) (same m)
   unfolding removal removed found
@@ -62,5 +61,5 @@ module _ (p : Parts) (root : List Record) (ws : List ℕ) (full : p .sizes .r �
     pub extract-found : removal p root ws (m .label) byName .found ≡ true
     unfolding removal
     extract-found =
-        shown-extract-found (p .sizes .h) (p .sizes .z) (p .sizes .r) root ws full given (stampOf (p .t)) m (room .parts .sizes .height .0) proper
+        shown-extract-found (p .sizes .h) (p .sizes .z) (p .sizes .r) root ws full given (ruleOf p) refl m (room .parts .sizes .height .0) proper
         (fetched-good (pathBad p root ws (m .label)) refl good)

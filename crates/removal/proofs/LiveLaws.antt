@@ -12,12 +12,14 @@ use lib.ListN.{length}
 use Rattle.record.specs.declared.Leaf.{Leaf}
 use Rattle.record.specs.declared.Stamp.{Stamp}
 use Rattle.record.specs.declared.Record.{Record}
+use Rattle.record.specs.declared.Rule.{Rule}
 use Rattle.record.specs.Standing.{dummy, isDummy}
 use Rattle.record.proofs.StandingLaws.{dummy-is, is-dummy}
 use Rattle.clearing.specs.Removal.{named, found}
 use Rattle.damage.proofs.Empty.{none-found}
 use Rattle.parts.specs.declared.Parts.{Parts}
-use Rattle.judge.specs.BadParts.{stampOf, oddLeast}
+use Rattle.parts.specs.Parts.{ruleOf}
+use Rattle.judge.specs.BadParts.{oddLeast}
 use Rattle.judge.proofs.FitLaws.{Fit}
 use Rattle.settle.specs.Left.{pathWay, pathBad, removal, removalDamaged}
 use Rattle.settle.specs.Room.{RemovalRoom}
@@ -28,9 +30,9 @@ unfolding named
 nameless l s = rw is-dummy
 
 -- the least record of no live events is the dummy
-no-least : (n : ℕ) (next : Stamp) (least : Record) → oddLeast n next 0 least ≡ false → least ≡ dummy
+no-least : (rule : Rule) (least : Record) → oddLeast rule 0 least ≡ false → least ≡ dummy
 unfolding oddLeast
-no-least n next least e = elim (dichotomy (isDummy least)) [
+no-least rule least e = elim (dichotomy (isDummy least)) [
   | inl f ↦ absurd (true≢false (rw f at e))
   | inr t ↦ dummy-is least t
 ]
@@ -44,10 +46,10 @@ module _ (p : Parts) (root : List Record) (ws : List ℕ) (q label : Leaf) (stam
 
   none-there : p .c ≡ 0 → found (named label stamp) (pathWay (p .sizes) root ws) ≡ false
   none-there e =
-      let empty = no-least _ _ (p .least) (rw e at (fit .odd)) in
+      let empty = no-least _ (p .least) (rw e at (fit .odd)) in
       let k = room .fetched in
       let given : 4 * ((0 + p .sizes .h) * (p .sizes .z + 1)) ≤ length ws = omega arith in
-      none-found (p .sizes .h) (p .sizes .z) (p .sizes .r) root ws full given (stampOf (p .t)) q (fit .slots) (rw empty at fetched-good) (named label stamp) (nameless label stamp)
+      none-found (p .sizes .h) (p .sizes .z) (p .sizes .r) root ws full given (ruleOf p) q (fit .slots) (rw empty at fetched-good) (named label stamp) (nameless label stamp)
 
   pub found-live : removal p root ws q (named label stamp) .found ≡ true → 1 ≤ p .c
   unfolding removal

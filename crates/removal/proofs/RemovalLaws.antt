@@ -17,7 +17,7 @@ use Rattle.parts.specs.declared.Parts.{Parts}
 use Rattle.work.specs.declared.removal.Removed.{Removed}
 use Rattle.work.specs.RemovalWork.{PathRemoved}
 use Rattle.settle.specs.declared.Settled.{Settled}
-use Rattle.settle.specs.Left.{Left, removal, badLeft, removalDamaged}
+use Rattle.settle.specs.Left.{Left, ruleAfter, removal, badLeft, removalDamaged}
 use Rattle.settle.specs.Room.{RemovalRoom}
 use Rattle.settle.specs.Settled.{unsettled, judged, Prepares}
 use Rattle.settle.proofs.PreparedLaws.{not-prepared, is-prepared}
@@ -48,7 +48,7 @@ module _ (p : Parts) (root : List Record) (ws : List ℕ) (q : Leaf) (f : Record
   fetched-bad path out e g = not-prepared p root damaged left (p .sizes .h) path out (told ∙ rw e) g
 
   -- what the work leaves, and its judgement
-  pub left-judged : (path : List ℕ) (out : Removed) → PathRemoved (p .sizes) q f (records sibs) (records w) root path out → (live : ℕ)
+  pub left-judged : (path : List ℕ) (out : Removed) → PathRemoved (ruleAfter p) (p .sizes) q f (records sibs) (records w) root path out → (live : ℕ)
       → live ≡ cond (out .found) (p .c - 1) (p .c) → seen .damaged ≡ false → (done : Settled)
       → done ≡ judged p root
       (record { root = out .root; least = out .least; c = live; found = out .found; moved = seen .moved; damaged = false })

@@ -16,6 +16,7 @@ ghost use Rattle.settle.specs.Settled.{Prepares, Settles, Writes};
 ghost use Rattle.path.specs.Cut.{Cut};
 ghost use Rattle.settle.specs.Room.{RemovalRoom};
 use parts::Parts;
+use path::ROOT_PLACES;
 use path::Sizes;
 use record::Leaf;
 use record::RECORD_WORDS;
@@ -47,7 +48,7 @@ fn live_after(c: u64, found: bool) -> u64
 fn prepare_removal(
     words: &[u64],
     path: &mut [u64],
-    root: [Record; 64],
+    root: [Record; ROOT_PLACES],
     parts: Parts,
     leaf: Leaf,
     label: Leaf,
@@ -100,7 +101,7 @@ fn write_removal(words: &mut [u64], path: &[u64], sizes: Sizes, out: Settled) ->
 // For crates above: the record of this label and stamp is removed, the path of the leaf evicted and written; or nothing is changed.
 pub fn settle_removal(
     words: &mut [u64],
-    root: [Record; 64],
+    root: [Record; ROOT_PLACES],
     parts: Parts,
     leaf: Leaf,
     label: Leaf,

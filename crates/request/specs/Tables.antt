@@ -7,7 +7,7 @@ use lib.Dec.{ltb, leb, eqb}
 use Rattle.record.specs.declared.Leaf.{Leaf}
 use Rattle.record.specs.declared.Stamp.{Stamp}
 use Rattle.record.specs.declared.Record.{Record}
-use Rattle.record.specs.Standing.{dummyKey, known}
+use Rattle.record.specs.Standing.{dummyKey, ruleFor, known}
 use Rattle.path.specs.declared.sizes.Sizes.{Sizes}
 use Rattle.path.specs.Sizes.{leavesOf}
 use Rattle.root.specs.Root.{rootFull}
@@ -43,7 +43,7 @@ module _ (s : Sizes) (t c : ℕ) where
   deleteRows label stamp =
       row 4 (eqb t (s .t))
       ∷ row 6 (badLabel (leavesOf (s .h)) label)
-      ∷ row 7 (not (known (record { 0 = t }) stamp))
+      ∷ row 7 (not (known (ruleFor (leavesOf (s .h)) t) stamp))
       ∷ []
 
   unfoldable pub requestRows : List Record → Request → List Refusal

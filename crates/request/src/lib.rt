@@ -107,10 +107,11 @@ fn why_delete(parts: Parts, label: Leaf, stamp: Stamp) -> u64
     if parts.t == parts.sizes.t {
         return SPENT;
     }
-    if label.0 >= leaves(parts.sizes.h) {
+    let rule = parts.rule();
+    if label.0 >= rule.leaves {
         return BAD_LEAF;
     }
-    if !stamp.is_known(Stamp(parts.t)) {
+    if !stamp.is_known(rule) {
         return BAD_STAMP;
     }
     0

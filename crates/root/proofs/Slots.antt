@@ -10,10 +10,10 @@ use lib.Dec.{leb, eqb, eqb·suc-suc, eqb·zero-suc}
 use lib.ListN.{length, take}
 use lib.Seq.{take-all}
 use borrow.Author.Tests.{eq-eqb}
-use Rattle.record.specs.declared.Stamp.{Stamp}
+use Rattle.record.specs.declared.Rule.{Rule}
 use Rattle.record.specs.declared.Record.{Record}
 use Rattle.record.specs.Standing.{dummy, isDummy, isProper, mayStand}
-use Rattle.record.specs.Order.{noLater}
+use Rattle.record.specs.Order.{before}
 use Rattle.record.specs.Many.{every, reals}
 use Rattle.record.specs.Words.{recordAt, records}
 use Rattle.record.proofs.PlacesLaws.{pass-starts, pass-turns, pass-fails, pass-ends, reals-dummy, reals-next}
@@ -22,25 +22,25 @@ use Rattle.way.specs.Evict.{seek}
 use Rattle.root.specs.Root.{slotsFine, rootFull}
 
 -- a record that is the dummy, or no earlier than `least`
-unfoldable pub noEarlier : Record → Record → Bool
-noEarlier least x = isDummy x || noLater least x
+unfoldable pub noEarlier : Rule → Record → Record → Bool
+noEarlier rule least x = isDummy x || before rule least x
 
 -- what the pass of `slots_fine` over the places of some words knows at place i
-pub record Fine (ws : List ℕ) (leaves : ℕ) (next : Stamp) (least : Record) (i count : ℕ) : Type 0 where
+pub record Fine (ws : List ℕ) (rule : Rule) (least : Record) (i count : ℕ) : Type 0 where
   pub place : i ≤ length ws / 4
   pub few : count ≤ i
-  pub stand : every (mayStand leaves next) (take i (records ws)) ≡ true
-  pub after : every (noEarlier least) (take i (records ws)) ≡ true
+  pub stand : every (mayStand rule) (take i (records ws)) ≡ true
+  pub after : every (noEarlier rule least) (take i (records ws)) ≡ true
   pub counted : count ≡ reals (take i (records ws))
 
-module _ (ws : List ℕ) (leaves : ℕ) (next : Stamp) (least : Record) where
-  pub fine-starts : Fine ws leaves next least 0 0
+module _ (ws : List ℕ) (rule : Rule) (least : Record) where
+  pub fine-starts : Fine ws rule least 0 0
   unfolding reals
   fine-starts =
       record { place = omega arith; few = omega arith; stand = pass-starts _; after = pass-starts _; counted = refl }
 
   module _ (i count : ℕ) (h : i < length ws / 4) where
-    pub fine-dummy : Fine ws leaves next least i count → isDummy (recordAt ws i) ≡ true → Fine ws leaves next least (i + 1) count
+    pub fine-dummy : Fine ws rule least i count → isDummy (recordAt ws i) ≡ true → Fine ws rule least (i + 1) count
     unfolding mayStand noEarlier
     fine-dummy p e =
         record {
@@ -54,8 +54,8 @@ module _ (ws : List ℕ) (leaves : ℕ) (next : Stamp) (least : Record) where
         }
 
     pub fine-record :
-        Fine ws leaves next least i count → isDummy (recordAt ws i) ≡ false → isProper leaves next (recordAt ws i) ≡ true
-        → noLater least (recordAt ws i) ≡ true → Fine ws leaves next least (i + 1) (count + 1)
+        Fine ws rule least i count → isDummy (recordAt ws i) ≡ false → isProper rule (recordAt ws i) ≡ true
+        → before rule least (recordAt ws i) ≡ true → Fine ws rule least (i + 1) (count + 1)
     unfolding mayStand noEarlier
     fine-record p e f g =
         record {
@@ -70,23 +70,23 @@ module _ (ws : List ℕ) (leaves : ℕ) (next : Stamp) (least : Record) where
 
     -- a place that is not fine, and so the slots are not
     pub strange-place :
-        (live : ℕ) → isDummy (recordAt ws i) ≡ false → isProper leaves next (recordAt ws i) ≡ false
-        → slotsFine leaves next least live (records ws) ≡ false
+        (live : ℕ) → isDummy (recordAt ws i) ≡ false → isProper rule (recordAt ws i) ≡ false
+        → slotsFine rule least live (records ws) ≡ false
     unfolding slotsFine mayStand
-    strange-place live e f = rw (pass-fails (mayStand leaves next) ws i h (rw (e, f)))
+    strange-place live e f = rw (pass-fails (mayStand rule) ws i h (rw (e, f)))
 
     pub earlier-place :
-        (live : ℕ) → isDummy (recordAt ws i) ≡ false → noLater least (recordAt ws i) ≡ false
-        → slotsFine leaves next least live (records ws) ≡ false
+        (live : ℕ) → isDummy (recordAt ws i) ≡ false → before rule least (recordAt ws i) ≡ false
+        → slotsFine rule least live (records ws) ≡ false
     unfolding slotsFine noEarlier
-    earlier-place live e f = rw (pass-fails (noEarlier least) ws i h (rw (e, f)), and-false (every (mayStand leaves next) (records ws)))
+    earlier-place live e f = rw (pass-fails (noEarlier rule least) ws i h (rw (e, f)), and-false (every (mayStand rule) (records ws)))
 
   pub fine-ends :
-      (i count live : ℕ) → Fine ws leaves next least i count → length ws / 4 ≤ i → slotsFine leaves next least live (records ws) ≡ leb count live
+      (i count live : ℕ) → Fine ws rule least i count → length ws / 4 ≤ i → slotsFine rule least live (records ws) ≡ leb count live
   unfolding slotsFine noEarlier
   fine-ends i count live p h =
       let whole = take-all i (records ws) (omega (arith, records-count ws)) in
-      rw (pass-ends (mayStand leaves next) ws i h (p .stand), pass-ends (noEarlier least) ws i h (p .after), p .counted, whole)
+      rw (pass-ends (mayStand rule) ws i h (p .stand), pass-ends (noEarlier rule least) ws i h (p .after), p .counted, whole)
 
 -- "every root slot real": the lowest dummy slot is none of them
 pub full-slots : (n : ℕ) (xs : List Record) → eqb (seek isDummy n xs) n ≡ rootFull n xs

@@ -5,16 +5,16 @@ use mathlib.Core.Bool.{Bool, not, _&&_, _||_}
 use mathlib.Core.List.{List}
 use lib.Dec.{leb}
 use lib.ListN.{take, drop}
-use Rattle.record.specs.declared.Stamp.{Stamp}
+use Rattle.record.specs.declared.Rule.{Rule}
 use Rattle.record.specs.declared.Record.{Record}
 use Rattle.record.specs.Standing.{isDummy, mayStand}
-use Rattle.record.specs.Order.{noLater}
+use Rattle.record.specs.Order.{before}
 use Rattle.record.specs.Many.{every, reals, stampTwice}
 
 module _ (r : ℕ) (root : List Record) where
   -- "a root slot that is neither proper nor dummy"
-  unfoldable pub strangeSlot : ℕ → Stamp → Bool
-  strangeSlot leaves next = not (every (mayStand leaves next) (take r root))
+  unfoldable pub strangeSlot : Rule → Bool
+  strangeSlot rule = not (every (mayStand rule) (take r root))
 
   -- "slots past R not dummy"
   unfoldable pub usedPast : Bool
@@ -29,8 +29,8 @@ module _ (r : ℕ) (root : List Record) where
   rootRecords = reals (take r root)
 
   -- "greater than some root record"
-  unfoldable pub greaterThanSome : Record → Bool
-  greaterThanSome least = not (every (λ x. isDummy x || noLater least x) (take r root))
+  unfoldable pub greaterThanSome : Rule → Record → Bool
+  greaterThanSome rule least = not (every (λ x. isDummy x || before rule least x) (take r root))
 
   -- "every root slot real"
   unfoldable pub rootFull : Bool
@@ -38,7 +38,7 @@ module _ (r : ℕ) (root : List Record) where
 
 -- What one pass over the slots finds out: each may stand, none is a record before `least`, and no more than `live` are
 -- records.
-unfoldable pub slotsFine : ℕ → Stamp → Record → ℕ → List Record → Bool
-slotsFine leaves next least live slots =
-    every (mayStand leaves next) slots
-    && (every (λ x. isDummy x || noLater least x) slots && leb (reals slots) live)
+unfoldable pub slotsFine : Rule → Record → ℕ → List Record → Bool
+slotsFine rule least live slots =
+    every (mayStand rule) slots
+    && (every (λ x. isDummy x || before rule least x) slots && leb (reals slots) live)

@@ -8,11 +8,11 @@ ghost use Rattle.way.specs.Evict.{seek};
 ghost use Rattle.root.specs.Root.{slotsFine, rootFull};
 use record::RECORD_WORDS;
 use record::Record;
-use record::Stamp;
+use record::Rule;
 
 // For crates above: one pass over the slots. Each may stand, no record comes before `least`, and at most `live` are records.
-pub fn slots_fine(slots: &[u64], leaves: u64, next: Stamp, least: Record, live: u64) -> bool
-    ensures { λ r. ⌜ r ≡ slotsFine leaves next least live (records (now (slots .entry))) ⌝ }
+pub fn slots_fine(slots: &[u64], rule: Rule, least: Record, live: u64) -> bool
+    ensures { λ r. ⌜ r ≡ slotsFine rule least live (records (now (slots .entry))) ⌝ }
 {
     let n = slots.len() / RECORD_WORDS;
     let mut count: u64 = 0;
@@ -20,7 +20,7 @@ pub fn slots_fine(slots: &[u64], leaves: u64, next: Stamp, least: Record, live: 
     while i < n {
         let x = Record::read(slots, i);
         if !x.is_dummy() {
-            if !x.is_proper(leaves, next) {
+            if !x.is_proper(rule) {
                 return false;
             }
             if !least.no_later(x) {

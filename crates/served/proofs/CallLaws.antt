@@ -11,6 +11,7 @@ use Rattle.path.specs.declared.sizes.Sizes.{Sizes}
 use Rattle.path.specs.Sizes.{inRange}
 use Rattle.path.specs.Layout.{freshTree}
 use Rattle.refusal.specs.Refusal.{firstGiven}
+use Rattle.parts.specs.Parts.{ruleOf}
 use Rattle.card.specs.declared.Card.{Card}
 use Rattle.request.specs.declared.Waiting.{Waiting}
 use Rattle.request.specs.declared.Waiting.the-variants.{Nothing, For}
@@ -51,5 +52,5 @@ pub withdraw-ready : (k : Card) (tree : List ℕ) (live : List Record) → Ready
 withdraw-ready k tree live r = record { heap = r .heap; waiting = none-waits k }
 
 -- "FindMin answers the root's least record"
-pub ready-least : (k : Card) (tree : List ℕ) (live : List Record) → Ready k tree live → k .least ≡ smallest live
+pub ready-least : (k : Card) (tree : List ℕ) (live : List Record) → Ready k tree live → k .least ≡ smallest (ruleOf (partsOf k)) live
 ready-least k tree live r = heap-least (partsOf k) (k .root) tree [] live (r .heap)

@@ -15,8 +15,7 @@ use Rattle.lists.specs.BucketList.{pathList, pairList}
 use Rattle.path.proofs.SizesLaws.{in-range}
 use Rattle.clearing.specs.Removal.{named, found}
 use Rattle.refusal.specs.Refusal.{firstGiven}
-use Rattle.judge.specs.BadParts.{stampOf}
-use Rattle.settle.specs.Left.{Left, wordsLeft, partsAfter, removal, insertion, removalDamaged, insertionDamaged}
+use Rattle.settle.specs.Left.{Left, wordsLeft, partsAfter, ruleAfter, removal, insertion, removalDamaged, insertionDamaged}
 use Rattle.copies.specs.Copy.{fetched, stored}
 use Rattle.card.specs.declared.Card.{Card}
 use Rattle.parts.specs.Parts.{nextStamp}
@@ -156,11 +155,11 @@ module _ (k : Card) (tree words : List ℕ) (live : List Record) (r : Ready k tr
           most = accepts .second .1;
         }
 
-    proper : isProper (leavesOf (k .sizes .h)) (stampOf (suc (k .t))) new ≡ true
+    proper : isProper (ruleAfter (partsOf k)) new ≡ true
     proper =
         let other = accepts .key in
-        true-proper (leavesOf (k .sizes .h)) (stampOf (suc (k .t))) new
-        (record { key = omega arith; label = accepts .label; stamp = below-known (stampOf (suc (k .t))) (nextStamp (partsOf k)) (omega arith) })
+        true-proper (ruleAfter (partsOf k)) new
+        (record { key = omega arith; label = accepts .label; stamp = below-known (ruleAfter (partsOf k)) (nextStamp (partsOf k)) (omega arith) })
 
     few : k .c < leavesOf (k .sizes .h)
     few = omega (arith, accepts .space, H .most)

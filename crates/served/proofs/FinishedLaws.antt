@@ -17,6 +17,7 @@ use Rattle.request.specs.declared.Request.the-variants.{Insert, Extract, Delete
 use Rattle.request.specs.declared.Waiting.{Waiting}
 use Rattle.request.specs.declared.Waiting.the-variants.{For}
 use Rattle.card.specs.declared.Done.{Done}
+use Rattle.card.specs.Tables.{partsOf}
 use Rattle.card.specs.Answers.{orRefused}
 use Rattle.card.specs.Calls.{listOf}
 use Rattle.card.specs.Finish.{leftBy, damagedBy, cardLeft, wordsNeeded, finishTable, finishedBy, finishedFor, wordsFor, Finishes}
@@ -47,7 +48,7 @@ module _ (k : Card) (tree words : List ℕ) (live : List Record) (r : Ready k tr
   -- ready again, with the events that are then live
   pub finish-ready : (q : Request) → k .waiting ≡ For q → WordKey q
       → Ready (cardLeft k (leftBy k q (shown q))) (stored (k .sizes .z) (listOf k q .whole) (wordsLeft (leftBy k q (shown q)) (shown q)) tree)
-      (liveAfter (k .t) live q)
+      (liveAfter (partsOf k) live q)
   unfolding leftBy listOf liveAfter
   finish-ready (Insert key value label first second) e word = insert-ready k tree words live r key value label first second e word
   finish-ready Extract e word = rw (← ready-least k tree live r) (extract-ready k tree words live r e)

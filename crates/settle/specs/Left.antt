@@ -6,16 +6,18 @@ use mathlib.Core.List.{List, _++_}
 use lib.ListN.{length, drop}
 use Rattle.record.specs.declared.Leaf.{Leaf}
 use Rattle.record.specs.declared.Record.{Record}
+use Rattle.record.specs.declared.Rule.{Rule}
 use Rattle.path.specs.declared.sizes.Sizes.{Sizes}
 use Rattle.path.specs.Layout.{Contents}
 use Rattle.parts.specs.declared.Parts.{Parts}
+use Rattle.parts.specs.Parts.{ruleOf}
 use Rattle.least.specs.Least.{rootSlots}
 use Rattle.clearing.specs.Removal.{found}
 use Rattle.gather.specs.Shown.{siblingsShown, slotsShown, wayShown}
 use Rattle.mend.specs.Mended.{pathWords}
 use Rattle.sound.specs.Fetched.{pathFetched, firstFetched, secondFetched}
 use Rattle.damage.specs.Damaged.{pathDamaged, pairDamaged}
-use Rattle.judge.specs.BadParts.{stampOf, badParts}
+use Rattle.judge.specs.BadParts.{badParts}
 use Rattle.work.specs.PathWork.{pathBuckets, leastAfter}
 use Rattle.work.specs.RemovalWork.{removalRoot, removalBuckets, removalLeast, rooted}
 use Rattle.pair.specs.PairWork.{firstAfter, secondAfter, secondBeside, firstSiblings, secondSiblings}
@@ -32,6 +34,15 @@ pub record Left : Type 0 where
 -- "each bucket's part of the fetched words is written where it stands; sibling words, and any words past the list, stay"
 abbrev pub wordsLeft : Left → List ℕ → List ℕ
 wordsLeft l ws = pathWords (l .buckets) ++ drop (length (pathWords (l .buckets))) ws
+
+-- the parts of the card that comes out, with so many live events and this least record: "Every finished Insert, ExtractMin and
+-- Delete adds 1 to t."
+abbrev pub partsAfter : Parts → ℕ → Record → Parts
+partsAfter p c least = record { sizes = p .sizes; t = suc (p .t); c = c; least = least }
+
+-- what is proper on it, whatever its live events and its least record are: the rule of the work
+abbrev pub ruleAfter : Parts → Rule
+ruleAfter p = ruleOf (partsAfter p (p .c) (p .least))
 
 -- what is shown of one path, an Insert's first too: its way, and the least records of its siblings
 abbrev pub pathWay : Sizes → List Record → List ℕ → List Record
@@ -53,19 +64,22 @@ module _ (s : Sizes) (root : List Record) (ws : List ℕ) where
   abbrev pub upperAfter : Leaf → Leaf → Record → List Record
   upperAfter first second new = secondAfter s first second new (pathWay s root ws) (secondSlots s ws)
 
-  -- the least records beside the second path, and the buckets that each path is left with
-  abbrev pub upperBeside : Leaf → Record → ℕ → Record
-  upperBeside first new = secondBeside s first (firstSiblings s ws) (lowerAfter first new) (secondSiblings s ws)
-
-  abbrev pub lowerLeft : Leaf → Record → List Contents
-  lowerLeft first new = pathBuckets s first (firstSiblings s ws) (lowerAfter first new)
-
-  abbrev pub upperLeft : Leaf → Leaf → Record → List Contents
-  upperLeft first second new = pathBuckets s second (upperBeside first new) (upperAfter first second new)
-
 module _ (p : Parts) (root : List Record) (ws : List ℕ) where
   abbrev way : List Record
   way = pathWay (p .sizes) root ws
+
+  -- the least records beside an Insert's second path, and the buckets that each of its paths is left with
+  abbrev pub upperBeside : Leaf → Record → ℕ → Record
+  upperBeside first new =
+      secondBeside (ruleAfter p) (p .sizes) first (firstSiblings (p .sizes) ws) (lowerAfter (p .sizes) root ws first new) (secondSiblings (p .sizes) ws)
+
+  abbrev pub lowerLeft : Leaf → Record → List Contents
+  lowerLeft first new =
+      pathBuckets (ruleAfter p) (p .sizes) first (firstSiblings (p .sizes) ws) (lowerAfter (p .sizes) root ws first new)
+
+  abbrev pub upperLeft : Leaf → Leaf → Record → List Contents
+  upperLeft first second new =
+      pathBuckets (ruleAfter p) (p .sizes) second (upperBeside first new) (upperAfter (p .sizes) root ws first second new)
 
   -- ExtractMin and Delete: the record that passes is replaced by the dummy, "or answers Absent and removes nothing. Then
   -- the path is evicted."
@@ -73,26 +87,21 @@ module _ (p : Parts) (root : List Record) (ws : List ℕ) where
   removal q f =
       record {
         root = rooted (p .sizes .r) (removalRoot (p .sizes) q f way) root;
-        least = removalLeast (p .sizes) q f (pathSiblings (p .sizes) ws) way;
+        least = removalLeast (ruleAfter p) (p .sizes) q f (pathSiblings (p .sizes) ws) way;
         c = cond (found f way) (p .c - 1) (p .c);
         found = found f way;
-        buckets = removalBuckets (p .sizes) q f (pathSiblings (p .sizes) ws) way;
+        buckets = removalBuckets (ruleAfter p) (p .sizes) q f (pathSiblings (p .sizes) ws) way;
       }
 
   unfoldable pub insertion : Leaf → Leaf → Record → Left
   insertion first second new =
       record {
         root = rooted (p .sizes .r) (rootSlots (p .sizes .r) (upperAfter (p .sizes) root ws first second new)) root;
-        least = leastAfter (p .sizes) second (upperBeside (p .sizes) root ws first new) (upperAfter (p .sizes) root ws first second new);
+        least = leastAfter (ruleAfter p) (p .sizes) second (upperBeside first new) (upperAfter (p .sizes) root ws first second new);
         c = suc (p .c);
         found = false;
-        buckets = lowerLeft (p .sizes) root ws first new ++ upperLeft (p .sizes) root ws first second new;
+        buckets = lowerLeft first new ++ upperLeft first second new;
       }
-
--- the parts of the card that comes out, with so many live events and this least record: "Every finished Insert, ExtractMin and
--- Delete adds 1 to t."
-abbrev pub partsAfter : Parts → ℕ → Record → Parts
-partsAfter p c least = record { sizes = p .sizes; t = suc (p .t); c = c; least = least }
 
 -- "or the card that would come out is a BadCard": no request waits on that card
 abbrev pub badLeft : Parts → Left → Bool
@@ -102,12 +111,12 @@ badLeft p l = badParts (partsAfter p (l .c) (l .least)) (l .root)
 module _ (p : Parts) (root : List Record) (ws : List ℕ) where
   abbrev pub pathBad : Leaf → Bool
   pathBad q =
-      pathDamaged (p .sizes .h) (p .sizes .r) (stampOf (p .t)) (p .least) (pathFetched (p .sizes .h) (p .sizes .z) q ws)
+      pathDamaged (p .sizes .h) (p .sizes .r) (ruleOf p) (p .least) (pathFetched (p .sizes .h) (p .sizes .z) q ws)
       (pathWay (p .sizes) root ws)
 
   abbrev pub pairBad : Leaf → Leaf → Bool
   pairBad first second =
-      pairDamaged (p .sizes .h) (p .sizes .r) (stampOf (p .t)) (p .least) (firstFetched (p .sizes .h) (p .sizes .z) first ws)
+      pairDamaged (p .sizes .h) (p .sizes .r) (ruleOf p) (p .least) (firstFetched (p .sizes .h) (p .sizes .z) first ws)
       (secondFetched (p .sizes .h) (p .sizes .z) second ws) (wayShown (2 * p .sizes .h) (p .sizes .z) (p .sizes .r) root ws 0)
 
   unfoldable pub removalDamaged : Leaf → (Record → Bool) → Bool

@@ -59,7 +59,7 @@ pub fn path_words(sizes: Sizes) -> usize
 }
 
 // For crates above: Damaged, the parts as they came.
-pub fn unsettled(root: [Record; 64], parts: Parts) -> Settled
+pub fn unsettled(root: [Record; ROOT_PLACES], parts: Parts) -> Settled
     ensures { λ out. ⌜ out ≡ unsettled parts root ⌝ }
 {
     let least = parts.least;
@@ -74,7 +74,7 @@ pub fn unsettled(root: [Record; 64], parts: Parts) -> Settled
 }
 
 // "or the card that would come out is a BadCard"; no request waits on it.
-fn comes_out_bad(root: [Record; 64], parts: Parts) -> bool
+fn comes_out_bad(root: [Record; ROOT_PLACES], parts: Parts) -> bool
     ensures { λ b. ⌜ b ≡ badParts parts root ⌝ }
 {
     let mut places = [0u64; ROOT_WORDS];
@@ -83,7 +83,7 @@ fn comes_out_bad(root: [Record; 64], parts: Parts) -> bool
 }
 
 // For crates above: what would come out of a finish of one request more; or, where that is a BadCard, Damaged.
-pub fn judged(root: [Record; 64], parts: Parts, next: Settled) -> Settled
+pub fn judged(root: [Record; ROOT_PLACES], parts: Parts, next: Settled) -> Settled
     requires { ⌜ parts .t ≤ 4294967295 ⌝ }
     ensures { λ out. ⌜ out ≡ judged parts root next ⌝ }
 {

@@ -8,34 +8,33 @@ use mathlib.Mathlib.Data.Bool.Basic.{dichotomy}
 use native.Mathlib.Omega.{arith}
 use Rattle.record.specs.declared.Leaf.{Leaf}
 use Rattle.record.specs.declared.Bucket.{Bucket}
-use Rattle.record.specs.declared.Stamp.{Stamp}
 use Rattle.record.specs.declared.Record.{Record}
+use Rattle.record.specs.declared.Rule.{Rule}
 use Rattle.record.specs.Standing.{dummy, isDummy, isProper}
 use Rattle.record.proofs.StandingLaws.{dummy-is}
 use Rattle.record.proofs.ManyLaws.{every-each}
-use Rattle.path.specs.Sizes.{leavesOf}
 use Rattle.path.specs.Path.{pathBucket, siblingOf, holds}
 use Rattle.path.specs.Layout.{Contents}
 use Rattle.path.proofs.LevelLaws.{level-in}
 use Rattle.sound.specs.Sound.{sound, pathSound, siblingsSound}
 
 -- a sound record is the dummy, or proper and in place
-pub sound-cases : (h : ℕ) (next : Stamp) (d : ℕ) (b : Bucket) (r : Record) → sound h next d b r ≡ true
-    → (r ≡ dummy) ⊎ ((isProper (leavesOf h) next r ≡ true) × (holds h (r .label) d b ≡ true))
+pub sound-cases : (h : ℕ) (rule : Rule) (d : ℕ) (b : Bucket) (r : Record) → sound h rule d b r ≡ true
+    → (r ≡ dummy) ⊎ ((isProper rule r ≡ true) × (holds h (r .label) d b ≡ true))
 unfolding sound
-sound-cases h next d b r s = elim (dichotomy (isDummy r)) [
+sound-cases h rule d b r s = elim (dichotomy (isDummy r)) [
   | inl f ↦ inr (and-eq-true-iff _ _ .0 (rw f at s))
   | inr t ↦ inl (dummy-is r t)
 ]
 
 -- a clause that holds of all levels holds of each
 module _ (h : ℕ) (q : Leaf) (d : ℕ) (some : 1 ≤ d) (most : d ≤ h) where
-  pub bucket-sound-at : (shown : ℕ → Contents) (next : Stamp) → pathSound h q shown next ≡ true
-      → {x : Record} → List·Memᴰ x (shown d .least ∷ shown d .slots) → sound h next d (pathBucket h q d) x ≡ true
+  pub bucket-sound-at : (shown : ℕ → Contents) (rule : Rule) → pathSound h q shown rule ≡ true
+      → {x : Record} → List·Memᴰ x (shown d .least ∷ shown d .slots) → sound h rule d (pathBucket h q d) x ≡ true
   unfolding pathSound
-  bucket-sound-at shown next s m = every-each _ (every-each _ s (level-in 1 h d some (omega arith))) m
+  bucket-sound-at shown rule s m = every-each _ (every-each _ s (level-in 1 h d some (omega arith))) m
 
-  pub sibling-sound-at : (beside : ℕ → Record) (next : Stamp) (from : ℕ) → from ≤ d → siblingsSound h q beside next from ≡ true
-      → sound h next d (siblingOf (pathBucket h q d)) (beside d) ≡ true
+  pub sibling-sound-at : (beside : ℕ → Record) (rule : Rule) (from : ℕ) → from ≤ d → siblingsSound h q beside rule from ≡ true
+      → sound h rule d (siblingOf (pathBucket h q d)) (beside d) ≡ true
   unfolding siblingsSound
-  sibling-sound-at beside next from l s = every-each _ s (level-in from (suc h - from) d l (omega arith))
+  sibling-sound-at beside rule from l s = every-each _ s (level-in from (suc h - from) d l (omega arith))

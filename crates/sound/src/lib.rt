@@ -2,7 +2,8 @@
 // bucket". That bucket, for a sibling's least record, is the sibling itself.
 //
 // The checks are lent the part of the fetched words that holds the path's h whole buckets, and a scratch where the least
-// record of level d's sibling stands at place d - 1. Stands on `record`, `path` and the definitions of `gather`.
+// record of level d's sibling stands at place d - 1. A rule is that of the tree: its labels are the tree's leaves. Stands on `record`,
+// `path` and the definitions of `gather`.
 ghost use mathlib.Core.Path.{_≡_};
 ghost use Prim.Native.Nat.{_*_, _≤_, _<_, _^_};
 ghost use lib.ListN.{length};
@@ -12,36 +13,35 @@ ghost use Rattle.sound.specs.Sound.{sound, pathSound, siblingsSound, all
 ghost use Rattle.sound.specs.Fetched.{shownIn, besideIn, fetchedIn};
 ghost use Rattle.sound.specs.Room.{Room};
 use path::Sizes;
-use path::leaves;
 use path::sibling;
 use record::Bucket;
 use record::Leaf;
 use record::RECORD_WORDS;
 use record::Record;
-use record::Stamp;
+use record::Rule;
 
 // Whether the record may stand in this bucket of this level.
-fn is_sound(record: Record, sizes: Sizes, next: Stamp, level: u64, bucket: Bucket) -> bool
-    requires { ⌜ (sizes .h ≤ 16) × (level ≤ sizes .h) ⌝ }
-    ensures { λ x. ⌜ x ≡ sound (sizes .h) next level bucket «record» ⌝ }
+fn is_sound(record: Record, sizes: Sizes, rule: Rule, level: u64, bucket: Bucket) -> bool
+    requires { ⌜ (sizes .h ≤ 16) × ((rule .leaves ≡ 2 ^ sizes .h) × (level ≤ sizes .h)) ⌝ }
+    ensures { λ x. ⌜ x ≡ sound (sizes .h) rule level bucket «record» ⌝ }
 {
     if record.is_dummy() {
         return true;
     }
-    if !record.is_proper(leaves(sizes.h), next) {
+    if !record.is_proper(rule) {
         return false;
     }
     sizes.holds(record.label, level, bucket)
 }
 
 // Every record of a bucket's part: its least record and its slots.
-fn bucket_sound(part: &[u64], sizes: Sizes, next: Stamp, level: u64, bucket: Bucket) -> bool
-    requires { ⌜ (sizes .h ≤ 16) × (level ≤ sizes .h) ⌝ }
-    ensures { λ x. ⌜ x ≡ every (sound (sizes .h) next level bucket) (records (now (part .entry))) ⌝ }
+fn bucket_sound(part: &[u64], sizes: Sizes, rule: Rule, level: u64, bucket: Bucket) -> bool
+    requires { ⌜ (sizes .h ≤ 16) × ((rule .leaves ≡ 2 ^ sizes .h) × (level ≤ sizes .h)) ⌝ }
+    ensures { λ x. ⌜ x ≡ every (sound (sizes .h) rule level bucket) (records (now (part .entry))) ⌝ }
 {
     let n = part.len() / RECORD_WORDS;
     for i in 0..n {
-        if !is_sound(Record::read(part, i), sizes, next, level, bucket) {
+        if !is_sound(Record::read(part, i), sizes, rule, level, bucket) {
             return false;
         }
     }
@@ -49,9 +49,9 @@ fn bucket_sound(part: &[u64], sizes: Sizes, next: Stamp, level: u64, bucket: Buc
 }
 
 // The path's buckets, level by level.
-fn path_sound(path: &[u64], sizes: Sizes, leaf: Leaf, next: Stamp) -> bool
-    requires { ⌜ Room sizes leaf (now path) ⌝ }
-    ensures { λ x. ⌜ x ≡ pathSound (sizes .h) leaf (shownIn (sizes .z) (now (path .entry))) next ⌝ }
+fn path_sound(path: &[u64], sizes: Sizes, leaf: Leaf, rule: Rule) -> bool
+    requires { ⌜ (Room sizes leaf (now path)) × (rule .leaves ≡ 2 ^ sizes .h) ⌝ }
+    ensures { λ x. ⌜ x ≡ pathSound (sizes .h) leaf (shownIn (sizes .z) (now (path .entry))) rule ⌝ }
 {
     let h = sizes.h;
     let z = sizes.z as usize;
@@ -61,7 +61,7 @@ fn path_sound(path: &[u64], sizes: Sizes, leaf: Leaf, next: Stamp) -> bool
     while level <= h {
         let e = a + size;
         let bucket = sizes.bucket_at(leaf, level);
-        if !bucket_sound(&path[a..e], sizes, next, level, bucket) {
+        if !bucket_sound(&path[a..e], sizes, rule, level, bucket) {
             return false;
         }
         a = e;
@@ -71,16 +71,17 @@ fn path_sound(path: &[u64], sizes: Sizes, leaf: Leaf, next: Stamp) -> bool
 }
 
 // The siblings' least records from a level on.
-fn siblings_sound(sibs: &[u64], sizes: Sizes, leaf: Leaf, next: Stamp, from: u64) -> bool
+fn siblings_sound(sibs: &[u64], sizes: Sizes, leaf: Leaf, rule: Rule, from: u64) -> bool
     requires { ⌜ (sizes .h ≤ 16) × ((leaf .0 < 2 ^ sizes .h) × ((1 ≤ from) × (4 * sizes .h ≤ length (now sibs)))) ⌝ }
-    ensures { λ x. ⌜ x ≡ siblingsSound (sizes .h) leaf (besideIn (now (sibs .entry))) next from ⌝ }
+    requires { ⌜ rule .leaves ≡ 2 ^ sizes .h ⌝ }
+    ensures { λ x. ⌜ x ≡ siblingsSound (sizes .h) leaf (besideIn (now (sibs .entry))) rule from ⌝ }
 {
     let h = sizes.h;
     let mut level = from;
     while level <= h {
         let place = (level - 1) as usize;
         let bucket = sibling(sizes.bucket_at(leaf, level));
-        if !is_sound(Record::read(sibs, place), sizes, next, level, bucket) {
+        if !is_sound(Record::read(sibs, place), sizes, rule, level, bucket) {
             return false;
         }
         level += 1;
@@ -94,14 +95,15 @@ pub fn all_sound(
     sibs: &[u64],
     sizes: Sizes,
     leaf: Leaf,
-    next: Stamp,
+    rule: Rule,
     from: u64,
 ) -> bool
     requires { ⌜ (Room sizes leaf (now path)) × ((1 ≤ from) × (4 * sizes .h ≤ length (now sibs))) ⌝ }
-    ensures { λ x. ⌜ x ≡ allSound (sizes .h) next (fetchedIn (sizes .z) leaf (now (path .entry)) (now (sibs .entry))) from ⌝ }
+    requires { ⌜ rule .leaves ≡ 2 ^ sizes .h ⌝ }
+    ensures { λ x. ⌜ x ≡ allSound (sizes .h) rule (fetchedIn (sizes .z) leaf (now (path .entry)) (now (sibs .entry))) from ⌝ }
 {
-    if !path_sound(path, sizes, leaf, next) {
+    if !path_sound(path, sizes, leaf, rule) {
         return false;
     }
-    siblings_sound(sibs, sizes, leaf, next, from)
+    siblings_sound(sibs, sizes, leaf, rule, from)
 }

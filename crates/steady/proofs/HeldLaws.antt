@@ -19,7 +19,7 @@ use Rattle.answers.specs.declared.Answer.the-variants.{Refused}
 use Rattle.request.specs.declared.Request.{Request}
 use Rattle.request.specs.declared.Waiting.the-variants.{For}
 use Rattle.request.specs.Tables.{waits}
-use Rattle.card.specs.Tables.{requestTable}
+use Rattle.card.specs.Tables.{partsOf, requestTable}
 use Rattle.card.specs.Calls.{withWaiting, listOf}
 use Rattle.answers.specs.Answers.{numberOf}
 use Rattle.card.specs.Answers.{refused, orRefused}
@@ -126,14 +126,14 @@ module _ (desk : Desk) (tree : List ℕ) (q : Queue) (h : Holds desk tree q) whe
       round-numbered =
           ap (λ (d : Done). numberOf (d .answer)) finished-done ∙ finished-number waiting w _
 
-      again : Ready (out .card) after (liveAfter (k .t) (h .live) w)
+      again : Ready (out .card) after (liveAfter (partsOf k) (h .live) w)
       again = round-ready k (head desk tree) (h .live) (h .ready) (h .idle) w word none
 
       pub round-holds : Holds (record { sized = true; card = out .card }) (after ++ rest desk tree) (next q (asks w))
       round-holds =
           record {
             sized = refl;
-            live = liveAfter (k .t) (h .live) w;
+            live = liveAfter (partsOf k) (h .live) w;
             ready = rw (own-head (record { sized = true; card = out .card }) after (rest desk tree) (again .heap .sizes) (again .heap .words)) again;
             idle = rw card-left (left-idle waiting (leftBy waiting w (shown (listOf waiting w))));
             events = next-events waiting (head desk tree) (h .live) ready w refl ∙ ap (λ (p : Queue). next p (asks w) .events) own-queue;

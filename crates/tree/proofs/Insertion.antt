@@ -10,6 +10,7 @@ use lib.ListN.{length, take, drop, set, length-append, length-set}
 use lib.Seq.{take-at}
 use Rattle.record.specs.declared.Leaf.{Leaf}
 use Rattle.record.specs.declared.Record.{Record}
+use Rattle.record.specs.declared.Rule.{Rule}
 use Rattle.record.specs.Standing.{isDummy}
 use Rattle.path.specs.declared.sizes.Sizes.{Sizes}
 use Rattle.path.specs.Path.{pathBucket, upFrom}
@@ -44,7 +45,7 @@ seated-length r new w = if-room (ltb (seek isDummy r w) r)
     if-room true = length-set w (seek isDummy r w) new
     if-room false = refl
 
-module _ (s : Sizes) (first second : Leaf) (p : Halves (s .h) first second) (new : Record) (places : List Record)
+module _ (rule : Rule) (s : Sizes) (first second : Leaf) (p : Halves (s .h) first second) (new : Record) (places : List Record)
     (full : s .r ≤ length places) (least : Record) (tree words : List ℕ) (size : length tree ≡ treeWords (s .h) (s .z)) where
   abbrev T : Tree
   T = treeOf (s .z) (take (s .r) places) least tree
@@ -90,7 +91,7 @@ module _ (s : Sizes) (first second : Leaf) (p : Halves (s .h) first second) (new
   seat = seated (s .r) new (wayOf (s .h) first T)
 
   abbrev T₁ : Tree
-  T₁ = afterFirst s first new T
+  T₁ = afterFirst rule s first new T
 
   abbrev own₁ : ℕ → Record
   own₁ = besideOf (s .h) first T
@@ -112,7 +113,7 @@ module _ (s : Sizes) (first second : Leaf) (p : Halves (s .h) first second) (new
   left₂ = evicted s second way₂
 
   abbrev buckets : List Contents
-  buckets = pathBuckets s first b₁ after₁ ++ pathBuckets s second (secondBeside s first b₁ after₁ b₂) after₂
+  buckets = pathBuckets rule s first b₁ after₁ ++ pathBuckets rule s second (secondBeside rule s first b₁ after₁ b₂) after₂
 
   seat-length : length seat ≡ s .r + s .z * s .h
   seat-length = seated-length (s .r) new (wayOf (s .h) first T) ∙ first-way-length
@@ -121,31 +122,31 @@ module _ (s : Sizes) (first second : Leaf) (p : Halves (s .h) first second) (new
   way₂-length =
       let n = root-after-length s first seat seat-length in
       let m = ap length (sym slots-are) ∙ slots-length (s .z) ws (s .h) (s .h) given in
-      ap length (sym (second-way s first second p new T b₁ b₂ same₁ same₂))
+      ap length (sym (second-way rule s first second p new T b₁ b₂ same₁ same₂))
       ∙ length-append (rootSlots (s .r) (evicted s first seat)) (belowOf (s .h) second T (s .h)) ∙ omega (arith, n, m)
 
   -- what each path's buckets become
   abbrev f : ℕ → Contents
-  f = mendedAt (s .h) first (slotsAt (s .r) (s .z) (evicted s first seat)) own₁
+  f = mendedAt rule (s .h) first (slotsAt (s .r) (s .z) (evicted s first seat)) own₁
 
   abbrev g : ℕ → Contents
-  g = mendedAt (s .h) second (slotsAt (s .r) (s .z) left₂) own₂
+  g = mendedAt rule (s .h) second (slotsAt (s .r) (s .z) left₂) own₂
 
   abbrev top : Contents
-  top = contents (leastAfter s second own₂ left₂) (rootSlots (s .r) left₂)
+  top = contents (leastAfter rule s second own₂ left₂) (rootSlots (s .r) left₂)
 
   stored-both : (more : List ℕ)
-      → Alike (s .h) (treeOf (s .z) (rootSlots (s .r) left₂) (leastAfter s second own₂ left₂)
+      → Alike (s .h) (treeOf (s .z) (rootSlots (s .r) left₂) (leastAfter rule s second own₂ left₂)
       (stored (s .z) (pairList (s .h) first second .whole)
       (pathWords (map f (upFrom 1 (s .h))) ++ (pathWords (map g (upFrom 1 (s .h))) ++ more)) tree))
-      (inserted s first second new T)
+      (inserted rule s first second new T)
   unfolding worked pathBuckets
   stored-both more =
       let in₁ = first-inside (s .h) first second p in
       pair-stored (s .h) (s .z) first second p tree size f g
       (λ d l m. slots-after-length s first seat seat-length d l (omega arith))
       (λ d l m. slots-after-length s second way₂ way₂-length d l (omega arith)) more (take (s .r) places) _ least _
-      (inserted s first second new T) (laid-root (s .h) second (p .most) g top T₁)
+      (inserted rule s first second new T) (laid-root (s .h) second (p .most) g top T₁)
       (λ d l m. laid-off (s .h) second (p .most) g top T₁ (pathBucket (s .h) first d) (first-off (s .h) first second p d l m)
       ∙ laid-on (s .h) first in₁ f _ T d l m)
       (λ d l m. laid-on (s .h) second (p .most) g top T₁ d l m)
@@ -155,19 +156,19 @@ module _ (s : Sizes) (first second : Leaf) (p : Halves (s .h) first second) (new
   pub insertion-stored : (more : List ℕ)
       → Alike (s .h)
       (treeOf (s .z) (take (s .r) (rooted (s .r) (rootSlots (s .r) after₂) places))
-      (leastAfter s second (secondBeside s first b₁ after₁ b₂) after₂)
+      (leastAfter rule s second (secondBeside rule s first b₁ after₁ b₂) after₂)
       (stored (s .z) (pairList (s .h) first second .whole) (pathWords buckets ++ more) tree))
-      (inserted s first second new T)
+      (inserted rule s first second new T)
   unfolding pathBuckets
   insertion-stored more =
       let n = root-after-length s second way₂ way₂-length in
       rw (
         way-is,
         slots-are,
-        first-buckets s first second p new T b₁ b₂ same₁ same₂,
-        second-buckets s first second p new T b₁ b₂ same₁ same₂,
-        second-root s first second p new T b₁ b₂ same₁ same₂,
-        second-least s first second p new T b₁ b₂ same₁ same₂,
+        first-buckets rule s first second p new T b₁ b₂ same₁ same₂,
+        second-buckets rule s first second p new T b₁ b₂ same₁ same₂,
+        second-root rule s first second p new T b₁ b₂ same₁ same₂,
+        second-least rule s first second p new T b₁ b₂ same₁ same₂,
         take-at _ (drop (s .r) places) (s .r) n,
         path-words-append (map f (upFrom 1 (s .h))) (map g (upFrom 1 (s .h))),
         append-assoc (pathWords (map f (upFrom 1 (s .h)))) _ more,
@@ -182,8 +183,8 @@ module _ (s : Sizes) (first second : Leaf) (p : Halves (s .h) first second) (new
       rw (
         way-is,
         slots-are,
-        first-buckets s first second p new T b₁ b₂ same₁ same₂,
-        second-buckets s first second p new T b₁ b₂ same₁ same₂,
+        first-buckets rule s first second p new T b₁ b₂ same₁ same₂,
+        second-buckets rule s first second p new T b₁ b₂ same₁ same₂,
         path-words-append (map f (upFrom 1 (s .h))) (map g (upFrom 1 (s .h))),
         append-assoc (pathWords (map f (upFrom 1 (s .h)))) _ more,
       )
@@ -192,4 +193,4 @@ module _ (s : Sizes) (first second : Leaf) (p : Halves (s .h) first second) (new
       (λ d l m. slots-after-length s second way₂ way₂-length d l (omega arith)) more)
 
   pub last-way-length : length (rootSlots (s .r) after₁ ++ slots₂) ≡ s .r + s .z * s .h
-  last-way-length = rw (way-is, slots-are) (ap length (second-way s first second p new T b₁ b₂ same₁ same₂) ∙ way₂-length)
+  last-way-length = rw (way-is, slots-are) (ap length (second-way rule s first second p new T b₁ b₂ same₁ same₂) ∙ way₂-length)

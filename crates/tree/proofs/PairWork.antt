@@ -9,6 +9,7 @@ use borrow.Author.Tests.{ne-eqb}
 use Rattle.record.specs.declared.Leaf.{Leaf}
 use Rattle.record.specs.declared.Bucket.{Bucket}
 use Rattle.record.specs.declared.Record.{Record}
+use Rattle.record.specs.declared.Rule.{Rule}
 use Rattle.path.specs.declared.sizes.Sizes.{Sizes}
 use Rattle.path.specs.Path.{pathBucket}
 use Rattle.path.specs.Layout.{Contents}
@@ -26,7 +27,7 @@ use Rattle.tree.proofs.PathLaws.{Lays}
 use Rattle.tree.proofs.JoinLaws.{levelOf}
 
 -- ---- the second path after the first
-module _ (s : Sizes) (first second : Leaf) (p : Halves (s .h) first second) (new : Record) (T : Tree) (b₁ b₂ : ℕ → Record)
+module _ (rule : Rule) (s : Sizes) (first second : Leaf) (p : Halves (s .h) first second) (new : Record) (T : Tree) (b₁ b₂ : ℕ → Record)
     (same₁ : (d : ℕ) → 2 ≤ d → d ≤ s .h → b₁ d ≡ besideOf (s .h) first T d)
     (same₂ : (d : ℕ) → 2 ≤ d → d ≤ s .h → b₂ d ≡ besideOf (s .h) second T d) where
   abbrev way : List Record
@@ -39,13 +40,13 @@ module _ (s : Sizes) (first second : Leaf) (p : Halves (s .h) first second) (new
   seat = seated (s .r) new way
 
   abbrev T₁ : Tree
-  T₁ = afterFirst s first new T
+  T₁ = afterFirst rule s first new T
 
   abbrev own₁ : ℕ → Record
   own₁ = besideOf (s .h) first T
 
-  lays : Lays (s .h) first (bucketAfter s first own₁ (evicted s first seat)) T T₁
-  lays = worked-lays s first (first-inside (s .h) first second p) seat T
+  lays : Lays (s .h) first (bucketAfter rule s first own₁ (evicted s first seat)) T T₁
+  lays = worked-lays rule s first (first-inside (s .h) first second p) seat T
 
   abbrev after₁ : List Record
   after₁ = firstAfter s first new way
@@ -53,9 +54,9 @@ module _ (s : Sizes) (first second : Leaf) (p : Halves (s .h) first second) (new
   abbrev after₂ : List Record
   after₂ = secondAfter s first second new way slots₂
 
-  pub first-buckets : pathBuckets s first b₁ after₁ ≡ pathBuckets s first own₁ after₁
+  pub first-buckets : pathBuckets rule s first b₁ after₁ ≡ pathBuckets rule s first own₁ after₁
   unfolding pathBuckets
-  first-buckets = mended-same (s .h) first (slotsAt (s .r) (s .z) after₁) b₁ own₁ 2 same₁ (omega arith)
+  first-buckets = mended-same rule (s .h) first (slotsAt (s .r) (s .z) after₁) b₁ own₁ 2 same₁ (omega arith)
 
   -- the second way: what the first left in the root, and slots that it did not touch
   root-left : slotsOn (s .h) second T₁ 0 ≡ rootSlots (s .r) after₁
@@ -76,14 +77,14 @@ module _ (s : Sizes) (first second : Leaf) (p : Halves (s .h) first second) (new
   second-way = sym (way-below (s .h) second T₁ ∙ rw (root-left, below-kept (s .h) (omega arith)))
 
   -- the siblings beside it
-  top-left : topFirst s first b₁ after₁ ≡ besideOf (s .h) second T₁ 1
+  top-left : topFirst rule s first b₁ after₁ ≡ besideOf (s .h) second T₁ 1
   unfolding levelOf
   top-left =
-      top-same (s .h) first (slotsAt (s .r) (s .z) after₁) b₁ own₁ 2 same₁ (omega arith) (p .high)
+      top-same rule (s .h) first (slotsAt (s .r) (s .z) after₁) b₁ own₁ 2 same₁ (omega arith) (p .high)
       ∙ ap (λ (c : Contents). c .least) (sym (lays .on 1 (p .high)))
       ∙ ap (λ (b : Bucket). T₁ b .least) (sym (second-sibling (s .h) first second p))
 
-  pub second-beside : (d : ℕ) → 1 ≤ d → d ≤ s .h → secondBeside s first b₁ after₁ b₂ d ≡ besideOf (s .h) second T₁ d
+  pub second-beside : (d : ℕ) → 1 ≤ d → d ≤ s .h → secondBeside rule s first b₁ after₁ b₂ d ≡ besideOf (s .h) second T₁ d
   second-beside d l m = elim (decLe 2 d) [
     | yes h ↦
         rw (ne-eqb d 1 (omega arith))
@@ -94,10 +95,10 @@ module _ (s : Sizes) (first second : Leaf) (p : Halves (s .h) first second) (new
   abbrev left₂ : List Record
   left₂ = evicted s second (wayOf (s .h) second T₁)
 
-  pub second-buckets : pathBuckets s second (secondBeside s first b₁ after₁ b₂) after₂ ≡ pathBuckets s second (besideOf (s .h) second T₁) left₂
+  pub second-buckets : pathBuckets rule s second (secondBeside rule s first b₁ after₁ b₂) after₂ ≡ pathBuckets rule s second (besideOf (s .h) second T₁) left₂
   unfolding pathBuckets
   second-buckets =
-      rw second-way (mended-same (s .h) second (slotsAt (s .r) (s .z) left₂) (secondBeside s first b₁ after₁ b₂)
+      rw second-way (mended-same rule (s .h) second (slotsAt (s .r) (s .z) left₂) (secondBeside rule s first b₁ after₁ b₂)
       (besideOf (s .h) second T₁) 1 second-beside (omega arith))
 
   pub second-root :
@@ -105,11 +106,11 @@ module _ (s : Sizes) (first second : Leaf) (p : Halves (s .h) first second) (new
   second-root = rw second-way
 
   pub second-least :
-      leastAfter s second (secondBeside s first b₁ after₁ b₂) after₂ ≡ leastAfter s second (besideOf (s .h) second T₁) left₂
+      leastAfter rule s second (secondBeside rule s first b₁ after₁ b₂) after₂ ≡ leastAfter rule s second (besideOf (s .h) second T₁) left₂
   unfolding leastAfter
   second-least =
       rw (
         second-way,
-        kids-same (s .h) second (slotsAt (s .r) (s .z) left₂) (secondBeside s first b₁ after₁ b₂)
+        kids-same rule (s .h) second (slotsAt (s .r) (s .z) left₂) (secondBeside rule s first b₁ after₁ b₂)
             (besideOf (s .h) second T₁) 1 second-beside (s .h) (omega arith),
       )

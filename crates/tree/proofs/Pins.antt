@@ -6,8 +6,9 @@ use mathlib.Core.List.{[], _∷_}
 use mathlib.Core.Path.{_≡_, refl}
 use Rattle.record.specs.declared.Leaf.{Leaf}
 use Rattle.record.specs.declared.Record.{Record}
-use Rattle.record.specs.Standing.{dummy, same, isDummy}
-use Rattle.record.specs.Order.{noLater, smallerBy, smallestBy}
+use Rattle.record.specs.declared.Rule.{Rule}
+use Rattle.record.specs.Standing.{ruleFor, dummy, same, isDummy}
+use Rattle.record.specs.Order.{before, smallerBy, smallestBy}
 use Rattle.record.specs.Words.{record4, records, wordsOf}
 use Rattle.path.specs.declared.sizes.Sizes.{Sizes}
 use Rattle.path.specs.Sizes.{sizesOf}
@@ -24,6 +25,10 @@ use Rattle.tree.specs.Work.{worked, taken, inserted}
 abbrev sizes : Sizes
 sizes = sizesOf 2 1 1 16
 
+-- 4 leaves, 2 requests finished
+abbrev rule : Rule
+rule = ruleFor 4 2
+
 abbrev leaf : ℕ → Leaf
 leaf n = record { 0 = n }
 
@@ -35,15 +40,15 @@ abbrev seven : Record
 seven = record4 7 70 0 0
 
 abbrev one : Tree
-one = inserted sizes (leaf 1) (leaf 2) seven fresh
+one = inserted rule sizes (leaf 1) (leaf 2) seven fresh
 
 -- "insert 5 50 0 1 2"
 abbrev two : Tree
-two = inserted sizes (leaf 1) (leaf 2) (record4 5 50 0 1) one
+two = inserted rule sizes (leaf 1) (leaf 2) (record4 5 50 0 1) one
 
 -- "extract"
 abbrev three : Tree
-three = taken sizes (leaf 0) (named (leaf 0) (record { 0 = 1 })) two
+three = taken rule sizes (leaf 0) (named (leaf 0) (record { 0 = 1 })) two
 
 -- "P10: after line 2 the record stands in bucket 2."; then the event with key 5 is the least of all; and P11: the extract of
 -- line 6 "moves key 7 to bucket 4"
@@ -51,6 +56,6 @@ sample :
     (one (bucket 2) .slots ≡ seven ∷ [])
     × (two root .least ≡ record4 5 50 0 1)
     × (three (bucket 4) .slots ≡ seven ∷ [])
-unfolding same isDummy noLater smallerBy smallestBy records wordsOf pathBucket holds siblingOf upFrom path seek fits movedTo pull
+unfolding same isDummy before smallerBy smallestBy records wordsOf pathBucket holds siblingOf upFrom path seek fits movedTo pull
     pulls evictUp evict slotsAt inOrder kids named removed pathBuckets leastAfter seated joined put putAll worked
 sample = (refl, refl, refl)

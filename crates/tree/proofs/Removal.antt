@@ -11,6 +11,7 @@ use lib.ListN.{length, take, drop}
 use lib.Seq.{take-at, length-take-le}
 use Rattle.record.specs.declared.Leaf.{Leaf}
 use Rattle.record.specs.declared.Record.{Record}
+use Rattle.record.specs.declared.Rule.{Rule}
 use Rattle.path.specs.declared.sizes.Sizes.{Sizes}
 use Rattle.path.specs.Sizes.{leavesOf}
 use Rattle.path.specs.Layout.{treeWords}
@@ -80,21 +81,8 @@ module _ (s : Sizes) (q : Leaf) (inside : q .0 < leavesOf (s .h)) (root : List R
   tree-way-length = ap length (sym way-is) ∙ way-length (s .h) (s .z) (s .r) root ws 0 full given
 
   module _ (f : Record → Bool) where
-    pub removal-buckets : removalBuckets s q f sibs way ≡ pathBuckets s q (besideOf (s .h) q T) (removalAfter s q f (wayOf (s .h) q T))
-    unfolding pathBuckets
-    removal-buckets = rw way-is (mended-same (s .h) q (slotsAt (s .r) (s .z) (removalAfter s q f (wayOf (s .h) q T))) (besideAt sibs)
-        (besideOf (s .h) q T) 1 beside-is (omega arith))
-
     pub removal-root : removalRoot s q f way ≡ removalRoot s q f (wayOf (s .h) q T)
     removal-root = rw way-is
-
-    pub removal-least : removalLeast s q f sibs way ≡ leastAfter s q (besideOf (s .h) q T) (removalAfter s q f (wayOf (s .h) q T))
-    unfolding leastAfter
-    removal-least = rw (
-      way-is,
-      kids-same (s .h) q (slotsAt (s .r) (s .z) (removalAfter s q f (wayOf (s .h) q T))) (besideAt sibs)
-          (besideOf (s .h) q T) 1 beside-is (s .h) (omega arith),
-    )
 
     gone : List Record
     gone = removed f (wayOf (s .h) q T)
@@ -103,23 +91,39 @@ module _ (s : Sizes) (q : Leaf) (inside : q .0 < leavesOf (s .h)) (root : List R
     unfolding gone
     gone-length = removed-length f _ ∙ tree-way-length
 
-    -- the words that finish leaves, stored: behind the path's buckets any words may stand
-    pub removal-stored : (more : List ℕ)
-        → Alike (s .h)
-        (treeOf (s .z) (take (s .r) (rooted (s .r) (removalRoot s q f way) root)) (removalLeast s q f sibs way)
-        (stored (s .z) (pathList (s .h) q .whole) (pathWords (removalBuckets s q f sibs way) ++ more) tree))
-        (taken s q f T)
-    unfolding worked pathBuckets gone
-    removal-stored more =
-        let n = root-after-length s q gone gone-length in
-        rw (removal-buckets, removal-root, removal-least, take-at _ (drop (s .r) root) (s .r) n)
-        (path-stored (s .h) (s .z) q inside tree size (mendedAt (s .h) q (slotsAt (s .r) (s .z) (evicted s q gone)) (besideOf (s .h) q T))
-        (λ d l m. slots-after-length s q gone gone-length d l (omega arith)) more _ _ _ _)
+    module _ (rule : Rule) where
+      pub removal-buckets :
+          removalBuckets rule s q f sibs way ≡ pathBuckets rule s q (besideOf (s .h) q T) (removalAfter s q f (wayOf (s .h) q T))
+      unfolding pathBuckets
+      removal-buckets = rw way-is (mended-same rule (s .h) q (slotsAt (s .r) (s .z) (removalAfter s q f (wayOf (s .h) q T))) (besideAt sibs)
+          (besideOf (s .h) q T) 1 beside-is (omega arith))
 
-    pub removal-stored-length : (more : List ℕ)
-        → length (stored (s .z) (pathList (s .h) q .whole) (pathWords (removalBuckets s q f sibs way) ++ more) tree) ≡ treeWords (s .h) (s .z)
-    unfolding pathBuckets gone
-    removal-stored-length more =
-        rw removal-buckets
-        (path-stored-length (s .h) (s .z) q inside tree size (mendedAt (s .h) q (slotsAt (s .r) (s .z) (evicted s q gone)) (besideOf (s .h) q T))
-        (λ d l m. slots-after-length s q gone gone-length d l (omega arith)) more)
+      pub removal-least :
+          removalLeast rule s q f sibs way ≡ leastAfter rule s q (besideOf (s .h) q T) (removalAfter s q f (wayOf (s .h) q T))
+      unfolding leastAfter
+      removal-least = rw (
+        way-is,
+        kids-same rule (s .h) q (slotsAt (s .r) (s .z) (removalAfter s q f (wayOf (s .h) q T))) (besideAt sibs)
+            (besideOf (s .h) q T) 1 beside-is (s .h) (omega arith),
+      )
+
+      -- the words that finish leaves, stored: behind the path's buckets any words may stand
+      pub removal-stored : (more : List ℕ)
+          → Alike (s .h)
+          (treeOf (s .z) (take (s .r) (rooted (s .r) (removalRoot s q f way) root)) (removalLeast rule s q f sibs way)
+          (stored (s .z) (pathList (s .h) q .whole) (pathWords (removalBuckets rule s q f sibs way) ++ more) tree))
+          (taken rule s q f T)
+      unfolding worked pathBuckets gone
+      removal-stored more =
+          let n = root-after-length s q gone gone-length in
+          rw (removal-buckets, removal-root, removal-least, take-at _ (drop (s .r) root) (s .r) n)
+          (path-stored (s .h) (s .z) q inside tree size (mendedAt rule (s .h) q (slotsAt (s .r) (s .z) (evicted s q gone)) (besideOf (s .h) q T))
+          (λ d l m. slots-after-length s q gone gone-length d l (omega arith)) more _ _ _ _)
+
+      pub removal-stored-length : (more : List ℕ)
+          → length (stored (s .z) (pathList (s .h) q .whole) (pathWords (removalBuckets rule s q f sibs way) ++ more) tree) ≡ treeWords (s .h) (s .z)
+      unfolding pathBuckets gone
+      removal-stored-length more =
+          rw removal-buckets
+          (path-stored-length (s .h) (s .z) q inside tree size (mendedAt rule (s .h) q (slotsAt (s .r) (s .z) (evicted s q gone)) (besideOf (s .h) q T))
+          (λ d l m. slots-after-length s q gone gone-length d l (omega arith)) more)

@@ -6,6 +6,7 @@ use mathlib.Core.Path.{_≡_}
 use native.Mathlib.Omega.{arith}
 use Rattle.record.specs.declared.Leaf.{Leaf}
 use Rattle.record.specs.declared.Record.{Record}
+use Rattle.record.specs.declared.Rule.{Rule}
 use Rattle.record.specs.Order.{leastOf}
 use Rattle.path.specs.declared.sizes.Sizes.{Sizes}
 use Rattle.path.specs.Sizes.{leavesOf}
@@ -20,18 +21,18 @@ use Rattle.tree.proofs.PathLaws.{Lays, laid-root, laid-on, laid-off}
 use Rattle.tree.proofs.JoinLaws.{levelOf}
 
 -- the path's buckets, the root's at level 0, once the way has become `after`
-abbrev pub bucketAfter : Sizes → Leaf → (ℕ → Record) → List Record → ℕ → Contents
-bucketAfter s q beside after d =
-    contents (leastOf (levelOf (s .r) (s .z) after d) (kids (s .h) q (slotsAt (s .r) (s .z) after) beside (s .h - d)))
+abbrev pub bucketAfter : Rule → Sizes → Leaf → (ℕ → Record) → List Record → ℕ → Contents
+bucketAfter rule s q beside after d =
+    contents (leastOf rule (levelOf (s .r) (s .z) after d) (kids rule (s .h) q (slotsAt (s .r) (s .z) after) beside (s .h - d)))
     (levelOf (s .r) (s .z) after d)
 
-module _ (s : Sizes) (q : Leaf) (inside : q .0 < leavesOf (s .h)) (w : List Record) (T : Tree) where
+module _ (rule : Rule) (s : Sizes) (q : Leaf) (inside : q .0 < leavesOf (s .h)) (w : List Record) (T : Tree) where
   pub worked-lays :
-      Lays (s .h) q (bucketAfter s q (besideOf (s .h) q T) (evicted s q w)) T (worked s q w T)
+      Lays (s .h) q (bucketAfter rule s q (besideOf (s .h) q T) (evicted s q w)) T (worked rule s q w T)
   unfolding worked pathBuckets leastAfter levelOf
   worked-lays = record { on = on; off = laid-off (s .h) q inside _ _ T }
     where
       on : (d : ℕ) → d ≤ s .h
-          → worked s q w T (pathBucket (s .h) q d) ≡ bucketAfter s q (besideOf (s .h) q T) (evicted s q w) d
+          → worked rule s q w T (pathBucket (s .h) q d) ≡ bucketAfter rule s q (besideOf (s .h) q T) (evicted s q w) d
       on zero l = let e : s .h - 0 ≡ s .h = omega arith in rw (path-root (s .h) q inside, e) (laid-root (s .h) q inside _ _ T)
       on (suc d) l = laid-on (s .h) q inside _ _ T (suc d) (omega arith) l

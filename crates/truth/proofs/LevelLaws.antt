@@ -11,6 +11,7 @@ use borrow.Author.Tests.{lt-ltb, le-ltb}
 use Rattle.record.specs.declared.Leaf.{Leaf}
 use Rattle.record.specs.declared.Bucket.{Bucket}
 use Rattle.record.specs.declared.Record.{Record}
+use Rattle.record.specs.declared.Rule.{Rule}
 use Rattle.record.specs.Standing.{dummy, same}
 use Rattle.record.specs.Order.{smallest, smallestBy, leastOf}
 use Rattle.record.specs.Words.{recordAt, records}
@@ -37,34 +38,34 @@ module _ (z : ℕ) (path : List ℕ) (h d : ℕ) (room : 4 * (h * (z + 1)) ≤ l
   least-shown = let r = level-ends in sym (records-at path ((d - 1) * (z + 1)) dummy (omega arith))
 
   -- the verdict on its least record, from what was read and worked out
-  pub level-true : (kids : List Record) (have kid given : Record) (verdict : Bool) → have ≡ recordAt path ((d - 1) * (z + 1))
-      → kid ≡ smallest kids → given ≡ over (take z (drop ((d - 1) * (z + 1) + 1) (records path))) kid → verdict ≡ same have given
-      → verdict ≡ same (shownIn z path d .least) (leastOf (shownIn z path d .slots) kids)
+  pub level-true : (rule : Rule) (kids : List Record) (have kid given : Record) (verdict : Bool) → have ≡ recordAt path ((d - 1) * (z + 1))
+      → kid ≡ smallest rule kids → given ≡ over rule (take z (drop ((d - 1) * (z + 1) + 1) (records path))) kid → verdict ≡ same have given
+      → verdict ≡ same (shownIn z path d .least) (leastOf rule (shownIn z path d .slots) kids)
   unfolding wholeAt
-  level-true kids have kid given verdict eh ek eg e = e ∙ rw (eg, ek, eh, least-shown, smallest-over)
+  level-true rule kids have kid given verdict eh ek eg e = e ∙ rw (eg, ek, eh, least-shown, smallest-over)
 
 -- ---- the children of the path's bucket at level d
 module _ (h : ℕ) (q : Leaf) (z : ℕ) (path sibs : List ℕ) (d : ℕ) where
-  pub kids-none : h ≤ d → dummy ≡ smallest (kidsShown h q (shownIn z path) (besideIn sibs) d)
+  pub kids-none : (rule : Rule) → h ≤ d → dummy ≡ smallest rule (kidsShown h q (shownIn z path) (besideIn sibs) d)
   unfolding kidsShown smallestBy
-  kids-none l = rw (le-ltb d h l)
+  kids-none rule l = rw (le-ltb d h l)
 
   module _ (l : d < h) (room : 4 * (h * (z + 1)) ≤ length path) (beside : 4 * h ≤ length sibs) where
     pub kid-ends : 4 * (d * (z + 1)) + 4 ≤ length path
     kid-ends = let r = fewer z (d + 1) h room (omega arith) in omega arith
 
-    pub kids-both : (b : Bucket) (own other kid : Record) → b ≡ pathBucket h q (d + 1) → own ≡ recordAt path (d * (z + 1))
-        → other ≡ recordAt sibs d → kid ≡ smallest (inOrder b own other)
-        → kid ≡ smallest (kidsShown h q (shownIn z path) (besideIn sibs) d)
+    pub kids-both : (rule : Rule) (b : Bucket) (own other kid : Record) → b ≡ pathBucket h q (d + 1) → own ≡ recordAt path (d * (z + 1))
+        → other ≡ recordAt sibs d → kid ≡ smallest rule (inOrder b own other)
+        → kid ≡ smallest rule (kidsShown h q (shownIn z path) (besideIn sibs) d)
     unfolding kidsShown wholeAt
-    kids-both b own other kid eb eo et e =
+    kids-both rule b own other kid eb eo et e =
         let n : suc d - 1 ≡ d = omega arith in
         let f = records-at path (d * (z + 1)) dummy kid-ends in
         let g = records-at sibs d dummy (omega arith) in
         e ∙ rw (eb, eo, et, lt-ltb d h l, n, f, g, add-one)
 
 -- ---- a clause that holds of all levels holds of each
-pub least-true-at : (h : ℕ) (q : Leaf) (shown : ℕ → Contents) (beside : ℕ → Record) (d : ℕ) → 1 ≤ d → d ≤ h → leastsTrue h q shown beside ≡ true
-    → shown d .least ≡ leastOf (shown d .slots) (kidsShown h q shown beside d)
+pub least-true-at : (h : ℕ) (q : Leaf) (shown : ℕ → Contents) (beside : ℕ → Record) (rule : Rule) (d : ℕ) → 1 ≤ d → d ≤ h
+    → leastsTrue h q shown beside rule ≡ true → shown d .least ≡ leastOf rule (shown d .slots) (kidsShown h q shown beside d)
 unfolding leastsTrue
-least-true-at h q shown beside d some most s = same-true _ _ (every-each _ s (level-in 1 h d some (omega arith)))
+least-true-at h q shown beside rule d some most s = same-true _ _ (every-each _ s (level-in 1 h d some (omega arith)))

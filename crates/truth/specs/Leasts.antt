@@ -7,6 +7,7 @@ use mathlib.Core.List.{List, []}
 use lib.Dec.{ltb}
 use Rattle.record.specs.declared.Leaf.{Leaf}
 use Rattle.record.specs.declared.Record.{Record}
+use Rattle.record.specs.declared.Rule.{Rule}
 use Rattle.record.specs.Standing.{same}
 use Rattle.record.specs.Many.{every}
 use Rattle.record.specs.Order.{leastOf}
@@ -21,13 +22,13 @@ module _ (h : ℕ) (q : Leaf) (shown : ℕ → Contents) (beside : ℕ → Recor
   kidsShown d = cond (ltb d h) (inOrder (pathBucket h q (suc d)) (shown (suc d) .least) (beside (suc d))) []
 
   -- the least record of each path bucket is "the one its slots and children give"
-  unfoldable pub leastsTrue : Bool
-  leastsTrue = every (λ d. same (shown d .least) (leastOf (shown d .slots) (kidsShown d))) (upFrom 1 h)
+  unfoldable pub leastsTrue : Rule → Bool
+  leastsTrue rule = every (λ d. same (shown d .least) (leastOf rule (shown d .slots) (kidsShown d))) (upFrom 1 h)
 
 -- of what was fetched: at one level, and at all
-abbrev pub trueAt : ℕ → Fetched → ℕ → Bool
-trueAt h p d =
-    same (p .shown d .least) (leastOf (p .shown d .slots) (kidsShown h (p .leaf) (p .shown) (p .beside) d))
+module _ (h : ℕ) (rule : Rule) (p : Fetched) where
+  abbrev pub trueAt : ℕ → Bool
+  trueAt d = same (p .shown d .least) (leastOf rule (p .shown d .slots) (kidsShown h (p .leaf) (p .shown) (p .beside) d))
 
-abbrev pub allTrue : ℕ → Fetched → Bool
-allTrue h p = leastsTrue h (p .leaf) (p .shown) (p .beside)
+  abbrev pub allTrue : Bool
+  allTrue = leastsTrue h (p .leaf) (p .shown) (p .beside) rule

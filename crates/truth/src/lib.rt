@@ -4,6 +4,7 @@
 ghost use mathlib.Core.Path.{_≡_};
 ghost use Prim.Native.Nat.{_*_, _≤_};
 ghost use lib.ListN.{length};
+ghost use Rattle.record.specs.declared.Rule.{Rule};
 ghost use Rattle.record.specs.Order.{smallest};
 ghost use Rattle.truth.specs.Leasts.{kidsShown, trueAt, allTrue};
 ghost use Rattle.sound.specs.Fetched.{shownIn, besideIn, fetchedIn};
@@ -16,7 +17,7 @@ use record::Record;
 // none.
 fn least_kid(path: &[u64], sibs: &[u64], sizes: Sizes, leaf: Leaf, level: u64) -> Record
     requires { ⌜ (Room sizes leaf (now path)) × (4 * sizes .h ≤ length (now sibs)) ⌝ }
-    ensures { λ x. ⌜ x ≡ smallest (kidsShown (sizes .h) leaf (shownIn (sizes .z) (now (path .entry))) (besideIn (now (sibs .entry))) level) ⌝ }
+    ensures { λ x. ⌜ ((rule : Rule) → x ≡ smallest rule (kidsShown (sizes .h) leaf (shownIn (sizes .z) (now (path .entry))) (besideIn (now (sibs .entry))) level)) ⌝ }
 {
     if level >= sizes.h {
         return Record::DUMMY;
@@ -31,7 +32,7 @@ fn least_kid(path: &[u64], sibs: &[u64], sizes: Sizes, leaf: Leaf, level: u64) -
 // Whether the fetched least record of the path's bucket at this level is true.
 fn least_true(path: &[u64], sibs: &[u64], sizes: Sizes, leaf: Leaf, level: u64) -> bool
     requires { ⌜ (Room sizes leaf (now path)) × ((4 * sizes .h ≤ length (now sibs)) × ((1 ≤ level) × (level ≤ sizes .h))) ⌝ }
-    ensures { λ x. ⌜ x ≡ trueAt (sizes .h) (fetchedIn (sizes .z) leaf (now (path .entry)) (now (sibs .entry))) level ⌝ }
+    ensures { λ x. ⌜ ((rule : Rule) → x ≡ trueAt (sizes .h) rule (fetchedIn (sizes .z) leaf (now (path .entry)) (now (sibs .entry))) level) ⌝ }
 {
     let z = sizes.z as usize;
     let place = (level - 1) as usize;
@@ -44,7 +45,7 @@ fn least_true(path: &[u64], sibs: &[u64], sizes: Sizes, leaf: Leaf, level: u64) 
 // For crates above: clause 3 for one path, level by level.
 pub fn leasts_true(path: &[u64], sibs: &[u64], sizes: Sizes, leaf: Leaf) -> bool
     requires { ⌜ (Room sizes leaf (now path)) × (4 * sizes .h ≤ length (now sibs)) ⌝ }
-    ensures { λ x. ⌜ x ≡ allTrue (sizes .h) (fetchedIn (sizes .z) leaf (now (path .entry)) (now (sibs .entry))) ⌝ }
+    ensures { λ x. ⌜ ((rule : Rule) → x ≡ allTrue (sizes .h) rule (fetchedIn (sizes .z) leaf (now (path .entry)) (now (sibs .entry)))) ⌝ }
 {
     let h = sizes.h;
     let mut level = 1;

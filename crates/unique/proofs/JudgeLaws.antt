@@ -1,9 +1,12 @@
 -- The judgements on a request, a card and what was fetched, and a finish on the parts of a card, leave one outcome.
 -- Assumes nothing.
 use mathlib.Core.Path.{refl, _∙_}
+use Rattle.record.specs.Standing.{ruleFor}
 use Rattle.unique.specs.One.{Determines}
 use Rattle.unique.proofs.OneLaws.{one-answer}
 use Rattle.unique.proofs.ScratchLaws.{full-words}
+use Rattle.parts.proofs.Parts.rule.Kinds as rule-kinds
+use Rattle.parts.proofs.Parts.rule.Reads as rule
 use Rattle.request.proofs.is_waiting.Kinds as is-waiting-kinds
 use Rattle.request.proofs.is_waiting.Reads as is-waiting
 use Rattle.request.proofs.why_request.Kinds as why-request-kinds
@@ -58,6 +61,11 @@ use Rattle.insertion.proofs.settle_insertion.Kinds as settle-insertion-kinds
 use Rattle.insertion.proofs.settle_insertion.Reads as settle-insertion
 use Rattle.finishes.proofs.settle_job.Kinds as settle-job-kinds
 use Rattle.finishes.proofs.settle_job.Reads as settle-job
+
+pub one-rule : Determines 0 rule-kinds.ps rule-kinds.r rule.Asked rule.Learnt
+one-rule =
+    one-answer 0 rule-kinds.ps rule-kinds.r rule.Asked rule.Learnt _ _
+    (λ κs a ok x xs f p. (p, refl))
 
 pub one-is-waiting : Determines 0 is-waiting-kinds.ps is-waiting-kinds.r is-waiting.Asked is-waiting.Learnt
 one-is-waiting =
@@ -127,7 +135,7 @@ one-all-sound =
 pub one-leasts-true : Determines 2 leasts-true-kinds.ps leasts-true-kinds.r leasts-true.Asked leasts-true.Learnt
 one-leasts-true =
     one-answer 2 leasts-true-kinds.ps leasts-true-kinds.r leasts-true.Asked leasts-true.Learnt _ _
-    (λ κs a ok x xs f p. (p, refl))
+    (λ κs a ok x xs f p. (p (ruleFor 0 0), refl))
 
 pub one-why : Determines 0 why-kinds.ps why-kinds.r why.Asked why.Learnt
 one-why =

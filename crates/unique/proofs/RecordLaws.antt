@@ -1,5 +1,6 @@
 -- The functions of `record`, `path` and `lists` leave one outcome. Assumes nothing.
 use mathlib.Core.Path.{refl}
+use Rattle.record.specs.Standing.{ruleFor}
 use Rattle.unique.specs.One.{Determines}
 use Rattle.unique.proofs.OneLaws.{one-answer}
 use Rattle.record.proofs.Stamp.is_known.Kinds as is-known-kinds
@@ -80,12 +81,12 @@ one-may-stand =
 pub one-no-later : Determines 0 no-later-kinds.ps no-later-kinds.r no-later.Asked no-later.Learnt
 one-no-later =
     one-answer 0 no-later-kinds.ps no-later-kinds.r no-later.Asked no-later.Learnt _ _
-    (λ κs a ok x xs f p. (p, refl))
+    (λ κs a ok x xs f p. (p (ruleFor 0 0), refl))
 
 pub one-smaller : Determines 0 smaller-kinds.ps smaller-kinds.r smaller.Asked smaller.Learnt
 one-smaller =
     one-answer 0 smaller-kinds.ps smaller-kinds.r smaller.Asked smaller.Learnt _ _
-    (λ κs a ok x xs f p. (p, refl))
+    (λ κs a ok x xs f p. (p (ruleFor 0 0), refl))
 
 pub one-read : Determines 1 read-kinds.ps read-kinds.r read.Asked read.Learnt
 one-read =

@@ -5,6 +5,7 @@ use mathlib.Core.List.{List}
 use mathlib.Core.Path.{_≡_, refl, sym, _∙_, ap}
 use lib.ListN.{length}
 use Rattle.record.specs.declared.Record.{Record}
+use Rattle.record.specs.Standing.{ruleFor}
 use Rattle.record.specs.Words.{records, wordsOf}
 use Rattle.record.proofs.WordsLaws.{words-records}
 use Rattle.unique.specs.One.{Determines}
@@ -57,12 +58,12 @@ one-evict =
 pub one-least-over : Determines 1 least-over-kinds.ps least-over-kinds.r least-over.Asked least-over.Learnt
 one-least-over =
     one-answer 1 least-over-kinds.ps least-over-kinds.r least-over.Asked least-over.Learnt _ _
-    (λ κs a ok x xs f p. (p, refl))
+    (λ κs a ok x xs f p. (p (ruleFor 0 0), refl))
 
 pub one-kids-least : Determines 0 kids-least-kinds.ps kids-least-kinds.r kids-least.Asked kids-least.Learnt
 one-kids-least =
     one-answer 0 kids-least-kinds.ps kids-least-kinds.r kids-least.Asked kids-least.Learnt _ _
-    (λ κs a ok x xs f p. (p, refl))
+    (λ κs a ok x xs f p. (p (ruleFor 0 0), refl))
 
 pub one-stamp-twice : Determines 1 stamp-twice-kinds.ps stamp-twice-kinds.r stamp-twice.Asked stamp-twice.Learnt
 one-stamp-twice =
@@ -112,7 +113,7 @@ one-clear =
 pub one-mend-path : Determines 3 mend-path-kinds.ps mend-path-kinds.r mend-path.Asked mend-path.Learnt
 one-mend-path =
     one-answer 3 mend-path-kinds.ps mend-path-kinds.r mend-path.Asked mend-path.Learnt _ _
-    (λ κs a ok x xs f p. (p .children, λ i. (p .words i, (tt, (tt, (tt, (tt, tt)))))))
+    (λ κs a ok x xs f p. (p (ruleFor 0 0) .children, λ i. (p (ruleFor 0 0) .words i, (tt, (tt, (tt, (tt, tt)))))))
 
 pub one-write-part : Determines 2 write-part-kinds.ps write-part-kinds.r write-part.Asked write-part.Learnt
 one-write-part =
@@ -127,7 +128,7 @@ one-write-path =
 pub one-work-path : Determines 3 work-path-kinds.ps work-path-kinds.r work-path.Asked work-path.Learnt
 one-work-path =
     one-answer 3 work-path-kinds.ps work-path-kinds.r work-path.Asked work-path.Learnt _ _
-    (λ κs a ok x xs f p. (p .least, λ i. (full-words _ _ _ (f .0 ∙ ok .slots) (p .after) i, (tt, (p .buckets i, (tt, (tt, tt)))))))
+    (λ κs a ok x xs f p. (p (ruleFor 0 0) .least, λ i. (full-words _ _ _ (f .0 ∙ ok .slots) (p (ruleFor 0 0) .after) i, (tt, (p (ruleFor 0 0) .buckets i, (tt, (tt, tt)))))))
 
 pub one-show-path : Determines 3 show-path-kinds.ps show-path-kinds.r show-path.Asked show-path.Learnt
 one-show-path =

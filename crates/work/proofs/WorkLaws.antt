@@ -6,6 +6,7 @@ use mathlib.Core.Path.{_≡_, ap, _∙_}
 use lib.ListN.{take, drop}
 use Rattle.record.specs.declared.Leaf.{Leaf}
 use Rattle.record.specs.declared.Record.{Record}
+use Rattle.record.specs.declared.Rule.{Rule}
 use Rattle.record.specs.Words.{records}
 use Rattle.path.specs.declared.sizes.Sizes.{Sizes}
 use Rattle.way.specs.Evict.{evict}
@@ -19,24 +20,24 @@ use Rattle.work.specs.PathWork.{pathBuckets, leastAfter, PathWorked}
 use Rattle.work.specs.RemovalWork.{PathRemoved}
 
 pub path-worked :
-    (s : Sizes) (q : Leaf) (B way : List Record) (w path : List ℕ) (kids x : Record)
-    → records w ≡ evict (s .h) (s .z) (s .r) q way → Mended s q (records w) B path kids
-    → x ≡ over (take (s .r) (records w)) kids → PathWorked s q (besideAt B) way w path x
+    (rule : Rule) (s : Sizes) (q : Leaf) (B way : List Record) (w path : List ℕ) (kids x : Record)
+    → records w ≡ evict (s .h) (s .z) (s .r) q way → Mended rule s q (records w) B path kids
+    → x ≡ over rule (take (s .r) (records w)) kids → PathWorked rule s q (besideAt B) way w path x
 unfolding pathBuckets leastAfter
-path-worked s q B way w path kids x e m l =
+path-worked rule s q B way w path kids x e m l =
     record {
       after = e;
       buckets = rw (← e) (m .words);
-      least = rw (← e, smallest-over) (l ∙ ap (over (take (s .r) (records w))) (m .children));
+      least = rw (← e, smallest-over) (l ∙ ap (over rule (take (s .r) (records w))) (m .children));
     }
 
 -- ---- a removal: cleared, worked on, and the root saved
 pub path-removed :
-    (s : Sizes) (q : Leaf) (f : Record → Bool) (sibs slots : List Record) (w₀ w₁ w₂ path : List ℕ) (out : Removed)
-    → Cleared f w₀ w₁ (out .found) → PathWorked s q (besideAt sibs) (records w₁) w₂ path (out .least)
+    (rule : Rule) (s : Sizes) (q : Leaf) (f : Record → Bool) (sibs slots : List Record) (w₀ w₁ w₂ path : List ℕ) (out : Removed)
+    → Cleared f w₀ w₁ (out .found) → PathWorked rule s q (besideAt sibs) (records w₁) w₂ path (out .least)
     → out .root ≡ take (s .r) (records w₂) ++ drop (s .r) slots
-    → PathRemoved s q f sibs (records w₀) slots path out
-path-removed s q f sibs slots w₀ w₁ w₂ path out c p e =
+    → PathRemoved rule s q f sibs (records w₀) slots path out
+path-removed rule s q f sibs slots w₀ w₁ w₂ path out c p e =
     let p′ = rw (cleared-records f w₀ w₁ (out .found) c) at p in
     record {
       finds = c .answered;

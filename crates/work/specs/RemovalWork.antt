@@ -8,6 +8,7 @@ use mathlib.Core.Path.{_≡_}
 use lib.ListN.{drop}
 use Rattle.record.specs.declared.Leaf.{Leaf}
 use Rattle.record.specs.declared.Record.{Record}
+use Rattle.record.specs.declared.Rule.{Rule}
 use Rattle.path.specs.declared.sizes.Sizes.{Sizes}
 use Rattle.path.specs.Layout.{Contents}
 use Rattle.least.specs.Least.{rootSlots}
@@ -25,20 +26,20 @@ module _ (s : Sizes) (q : Leaf) (f : Record → Bool) (way : List Record) where
   removalRoot = rootSlots (s .r) removalAfter
 
 -- then its least records are worked out: `sibs` are the siblings' from level 1 on
-module _ (s : Sizes) (q : Leaf) (f : Record → Bool) (sibs way : List Record) where
+module _ (rule : Rule) (s : Sizes) (q : Leaf) (f : Record → Bool) (sibs way : List Record) where
   abbrev pub removalBuckets : List Contents
-  removalBuckets = pathBuckets s q (besideAt sibs) (removalAfter s q f way)
+  removalBuckets = pathBuckets rule s q (besideAt sibs) (removalAfter s q f way)
 
   abbrev pub removalLeast : Record
-  removalLeast = leastAfter s q (besideAt sibs) (removalAfter s q f way)
+  removalLeast = leastAfter rule s q (besideAt sibs) (removalAfter s q f way)
 
 -- the card's root of 64 places, its first R replaced
 abbrev pub rooted : ℕ → List Record → List Record → List Record
 rooted r slots root = slots ++ drop r root
 
 pub record PathRemoved
-    (s : Sizes) (q : Leaf) (f : Record → Bool) (sibs way slots : List Record) (path : List ℕ) (out : Removed) : Type 0 where
+    (rule : Rule) (s : Sizes) (q : Leaf) (f : Record → Bool) (sibs way slots : List Record) (path : List ℕ) (out : Removed) : Type 0 where
   pub finds : out .found ≡ found f way
   pub root : out .root ≡ rooted (s .r) (removalRoot s q f way) slots
-  pub least : out .least ≡ removalLeast s q f sibs way
-  pub buckets : path ≡ pathWords (removalBuckets s q f sibs way)
+  pub least : out .least ≡ removalLeast rule s q f sibs way
+  pub buckets : path ≡ pathWords (removalBuckets rule s q f sibs way)

@@ -5,6 +5,7 @@ mod removal;
 
 pub use removal::Removed;
 pub use removal::remove_path;
+ghost use Rattle.record.specs.declared.Rule.{Rule};
 ghost use Rattle.record.specs.Words.{records};
 ghost use Rattle.mend.specs.Mended.{MendRoom, besideAt};
 ghost use Rattle.work.specs.PathWork.{PathWorked};
@@ -22,7 +23,7 @@ pub fn work_path(
     leaf: Leaf,
 ) -> Record
     requires { ⌜ MendRoom sizes leaf (now path) (now w) (now beside) ⌝ }
-    ensures { λ x. ⌜ PathWorked sizes leaf (besideAt (records (now (beside .entry)))) (records (now (w .entry))) (now (w .exit)) (now (path .exit)) x ⌝ }
+    ensures { λ x. ⌜ ((rule : Rule) → PathWorked rule sizes leaf (besideAt (records (now (beside .entry)))) (records (now (w .entry))) (now (w .exit)) (now (path .exit)) x) ⌝ }
 {
     way::evict(w, sizes, leaf);
     let kids = mend::mend_path(path, w, beside, sizes, leaf);

@@ -1,6 +1,7 @@
 // The work of ExtractMin and Delete: document 01, "ExtractMin replaces the root's least record, wherever it is on the path,
 // by the dummy; Delete does so with the record that has this label and stamp, or answers Absent and removes nothing. Then
 // the path is evicted."
+ghost use Rattle.record.specs.declared.Rule.{Rule};
 ghost use Rattle.record.specs.Words.{records};
 ghost use Rattle.clearing.specs.Removal.{named};
 ghost use Rattle.mend.specs.Mended.{MendRoom};
@@ -31,7 +32,7 @@ pub fn remove_path(
     stamp: Stamp,
 ) -> Removed
     requires { ⌜ MendRoom sizes leaf (now path) (now w) (now sibs) ⌝ }
-    ensures { λ out. ⌜ PathRemoved sizes leaf (named label stamp) (records (now (sibs .entry))) (records (now (w .entry))) root (now (path .exit)) out ⌝ }
+    ensures { λ out. ⌜ ((rule : Rule) → PathRemoved rule sizes leaf (named label stamp) (records (now (sibs .entry))) (records (now (w .entry))) root (now (path .exit)) out) ⌝ }
 {
     let found = clearing::clear(w, label, stamp);
     let least = work_path(w, sibs, path, sizes, leaf);

@@ -11,7 +11,7 @@ use Rattle.damage.proofs.pair_damaged.Tie as tie
 
 all-sound-requires : tie.Need-all-sound-requires
 all-sound-requires c κs =
-    (c .before .before .before .before .before .pre .0 .0, (omega arith, c .before .before .before .before .before .pre .0 .1))
+    ((c .before .before .before .before .before .pre .0 .0, (omega arith, c .before .before .before .before .before .pre .0 .1)), c .before .before .before .before .before .pre .1 .1 .1)
 
 returns : tie.Need-returns
 unfolding pairDamaged
@@ -19,7 +19,7 @@ returns c = rw (refuses (c .before .all-sound .ensures) (c .if1 .taken))
 
 all-sound-requires-2 : tie.Need-all-sound-requires-2
 all-sound-requires-2 c κs =
-    (c .before .before .before .before .before .before .before .pre .1 .0 .0, (omega arith, c .before .before .before .before .before .before .before .pre .1 .0 .1))
+    ((c .before .before .before .before .before .before .before .pre .1 .0 .0, (omega arith, c .before .before .before .before .before .before .before .pre .1 .0 .1)), c .before .before .before .before .before .before .before .pre .1 .1 .1)
 
 returns-2 : tie.Need-returns-2
 unfolding pairDamaged
@@ -41,7 +41,8 @@ leasts-true-requires c κs =
 returns-4 : tie.Need-returns-4
 unfolding pairDamaged
 returns-4 c =
-    rw (passes (c .before .before .before .before .before .before .before .all-sound .ensures) (c .before .before .before .before .before .before .if1 .left), passes (c .before .before .before .before .before .all-sound2 .ensures) (c .before .before .before .before .if2 .left), sym (c .before .before .before .stamp-twice .ensures) ∙ c .before .before .if3 .left, refuses (c .before .leasts-true .ensures) (c .if4 .taken))
+    let rule = c .before .before .before .before .before .before .before .before .before .before .before .before .before .args .rule in
+    rw (passes (c .before .before .before .before .before .before .before .all-sound .ensures) (c .before .before .before .before .before .before .if1 .left), passes (c .before .before .before .before .before .all-sound2 .ensures) (c .before .before .before .before .if2 .left), sym (c .before .before .before .stamp-twice .ensures) ∙ c .before .before .if3 .left, refuses (c .before .leasts-true .ensures rule) (c .if4 .taken))
 
 leasts-true-requires-2 : tie.Need-leasts-true-requires-2
 leasts-true-requires-2 c κs =
@@ -50,7 +51,8 @@ leasts-true-requires-2 c κs =
 returns-5 : tie.Need-returns-5
 unfolding pairDamaged
 returns-5 c =
-    rw (passes (c .before .before .before .before .before .before .before .before .before .all-sound .ensures) (c .before .before .before .before .before .before .before .before .if1 .left), passes (c .before .before .before .before .before .before .before .all-sound2 .ensures) (c .before .before .before .before .before .before .if2 .left), sym (c .before .before .before .before .before .stamp-twice .ensures) ∙ c .before .before .before .before .if3 .left, passes (c .before .before .before .leasts-true .ensures) (c .before .before .if4 .left), refuses (c .before .leasts-true2 .ensures) (c .if5 .taken))
+    let rule = c .before .before .before .before .before .before .before .before .before .before .before .before .before .before .before .args .rule in
+    rw (passes (c .before .before .before .before .before .before .before .before .before .all-sound .ensures) (c .before .before .before .before .before .before .before .before .if1 .left), passes (c .before .before .before .before .before .before .before .all-sound2 .ensures) (c .before .before .before .before .before .before .if2 .left), sym (c .before .before .before .before .before .stamp-twice .ensures) ∙ c .before .before .before .before .if3 .left, passes (c .before .before .before .leasts-true .ensures rule) (c .before .before .if4 .left), refuses (c .before .leasts-true2 .ensures rule) (c .if5 .taken))
 
 read-requires : tie.Need-read-requires
 read-requires c κs =
@@ -79,9 +81,9 @@ returns-6 c =
     let s = c .before .before .before .before .before .before .before .before .before .before .before .before .before .before .before .before .before .before .before .before .before .args in
     let lower = c .before .before .before .before .before .read .ensures ∙ first-shown (s .sizes .z) (s .one .now) (omega (arith, c .before .before .before .before .before .before .before .before .before .before .before .before .before .before .before .before .before .before .before .before .before .pre)) in
     let upper = c .before .before .before .before .read2 .ensures ∙ first-shown (s .sizes .z) (s .two .now) (omega (arith, c .before .before .before .before .before .before .before .before .before .before .before .before .before .before .before .before .before .before .before .before .before .pre)) in
-    let kids = rw (lower, upper) at (kids-two _ _ _ _ (c .before .before .before .smaller .ensures) (c .before .before .smaller2 .ensures)) in
-    let root = root-true _ _ _ _ _ _ kids (c .before .least-over .ensures) (c .same .ensures) in
-    rw (passes (c .before .before .before .before .before .before .before .before .before .before .before .before .before .before .before .all-sound .ensures) (c .before .before .before .before .before .before .before .before .before .before .before .before .before .before .if1 .left), passes (c .before .before .before .before .before .before .before .before .before .before .before .before .before .all-sound2 .ensures) (c .before .before .before .before .before .before .before .before .before .before .before .before .if2 .left), sym (c .before .before .before .before .before .before .before .before .before .before .before .stamp-twice .ensures) ∙ c .before .before .before .before .before .before .before .before .before .before .if3 .left, passes (c .before .before .before .before .before .before .before .before .before .leasts-true .ensures) (c .before .before .before .before .before .before .before .before .if4 .left), passes (c .before .before .before .before .before .before .before .leasts-true2 .ensures) (c .before .before .before .before .before .before .if5 .left)) (ap not root)
+    let kids = rw (lower, upper) at (kids-two (s .rule) _ _ _ _ (c .before .before .before .smaller .ensures (s .rule)) (c .before .before .smaller2 .ensures (s .rule))) in
+    let root = root-true (s .rule) _ _ _ _ _ _ kids (c .before .least-over .ensures (s .rule)) (c .same .ensures) in
+    rw (passes (c .before .before .before .before .before .before .before .before .before .before .before .before .before .before .before .all-sound .ensures) (c .before .before .before .before .before .before .before .before .before .before .before .before .before .before .if1 .left), passes (c .before .before .before .before .before .before .before .before .before .before .before .before .before .all-sound2 .ensures) (c .before .before .before .before .before .before .before .before .before .before .before .before .if2 .left), sym (c .before .before .before .before .before .before .before .before .before .before .before .stamp-twice .ensures) ∙ c .before .before .before .before .before .before .before .before .before .before .if3 .left, passes (c .before .before .before .before .before .before .before .before .before .leasts-true .ensures (s .rule)) (c .before .before .before .before .before .before .before .before .if4 .left), passes (c .before .before .before .before .before .before .before .leasts-true2 .ensures (s .rule)) (c .before .before .before .before .before .before .if5 .left)) (ap not root)
 
 pub pair-damaged-spec : {M : Type 1} → statement M
 pair-damaged-spec =

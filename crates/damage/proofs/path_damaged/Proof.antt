@@ -30,7 +30,8 @@ leasts-true-requires c κs = search needs
 returns-3 : tie.Need-returns-3
 unfolding pathDamaged
 returns-3 c =
-    rw (passes (c .before .before .before .before .before .all-sound .ensures) (c .before .before .before .before .if1 .left), sym (c .before .before .before .stamp-twice .ensures) ∙ c .before .before .if2 .left, refuses (c .before .leasts-true .ensures) (c .if3 .taken))
+    let rule = c .before .before .before .before .before .before .before .before .before .args .rule in
+    rw (passes (c .before .before .before .before .before .all-sound .ensures) (c .before .before .before .before .if1 .left), sym (c .before .before .before .stamp-twice .ensures) ∙ c .before .before .if2 .left, refuses (c .before .leasts-true .ensures rule) (c .if3 .taken))
 
 read-requires : tie.Need-read-requires
 read-requires c κs = search needs
@@ -58,9 +59,9 @@ returns-4 c =
     let s = c .before .before .before .before .before .before .before .before .before .before .before .before .before .before .before .args in
     let own = c .before .before .before .before .before .read .ensures ∙ first-shown (s .sizes .z) (s .path .now) (omega (arith, c .before .before .before .before .before .before .before .before .before .before .before .before .before .before .before .pre)) in
     let other = c .before .before .before .before .read2 .ensures ∙ first-beside (s .sibs .now) (omega (arith, c .before .before .before .before .before .before .before .before .before .before .before .before .before .before .before .pre)) in
-    let kids = rw (c .before .before .before .bucket-at .ensures, own, other) at (c .before .before .kids-least .ensures) in
-    let root = root-true _ _ _ _ _ _ kids (c .before .least-over .ensures) (c .same .ensures) in
-    rw (passes (c .before .before .before .before .before .before .before .before .before .before .before .all-sound .ensures) (c .before .before .before .before .before .before .before .before .before .before .if1 .left), sym (c .before .before .before .before .before .before .before .before .before .stamp-twice .ensures) ∙ c .before .before .before .before .before .before .before .before .if2 .left, passes (c .before .before .before .before .before .before .before .leasts-true .ensures) (c .before .before .before .before .before .before .if3 .left)) (ap not root)
+    let kids = rw (c .before .before .before .bucket-at .ensures, own, other) at (c .before .before .kids-least .ensures (s .rule)) in
+    let root = root-true (s .rule) _ _ _ _ _ _ kids (c .before .least-over .ensures (s .rule)) (c .same .ensures) in
+    rw (passes (c .before .before .before .before .before .before .before .before .before .before .before .all-sound .ensures) (c .before .before .before .before .before .before .before .before .before .before .if1 .left), sym (c .before .before .before .before .before .before .before .before .before .stamp-twice .ensures) ∙ c .before .before .before .before .before .before .before .before .if2 .left, passes (c .before .before .before .before .before .before .before .leasts-true .ensures (s .rule)) (c .before .before .before .before .before .before .if3 .left)) (ap not root)
 
 pub path-damaged-spec : {M : Type 1} → statement M
 path-damaged-spec =

@@ -18,7 +18,7 @@ slots-fine-requires c κs = search needs
 returns : tie.Need-returns
 returns c =
     let s = c .before .before .before .before .args in
-    slots-bad (s .root .now) (s .r) (s .n) (s .next) (s .c) (s .least) _ (c .before .slots-fine .ensures) (c .if1 .taken)
+    slots-bad (s .root .now) (s .r) (s .rule) (s .c) (s .least) _ (c .before .slots-fine .ensures) (c .if1 .taken)
 
 mul-all-dummies : tie.Need-mul-all-dummies
 mul-all-dummies c = search needs
@@ -38,7 +38,7 @@ all-dummies-requires c κs = search needs
 returns-2 : tie.Need-returns-2
 returns-2 c =
     let s = c .before .before .before .before .before .before .before .args in
-    past-bad (s .root .now) (s .r) (s .n) (s .next) (s .c) (s .least) _ (c .before .before .before .before .slots-fine .ensures) (c .before .before .before .if1 .left) _ (c .before .all-dummies .ensures) (c .if2 .taken)
+    past-bad (s .root .now) (s .r) (s .rule) (s .c) (s .least) _ (c .before .before .before .before .slots-fine .ensures) (c .before .before .before .if1 .left) _ (c .before .all-dummies .ensures) (c .if2 .taken)
 
 slice-aggregate-stamp-twice : tie.Need-slice-aggregate-stamp-twice
 slice-aggregate-stamp-twice c =
@@ -50,7 +50,7 @@ stamp-twice-requires c κs = search needs
 returns-3 : tie.Need-returns-3
 returns-3 c =
     let s = c .before .before .before .before .before .before .before .before .before .args in
-    stamps-told (s .root .now) (s .r) (s .n) (s .next) (s .c) (s .least) _ (c .before .before .before .before .before .before .slots-fine .ensures) (c .before .before .before .before .before .if1 .left) _ (c .before .before .before .all-dummies .ensures) _ (c .before .before .if2 .left) (c .stamp-twice .ensures)
+    stamps-told (s .root .now) (s .r) (s .rule) (s .c) (s .least) _ (c .before .before .before .before .before .before .slots-fine .ensures) (c .before .before .before .before .before .if1 .left) _ (c .before .before .before .all-dummies .ensures) _ (c .before .before .if2 .left) (c .stamp-twice .ensures)
 
 pub is-root-bad-spec : {M : Type 1} → statement M
 is-root-bad-spec =

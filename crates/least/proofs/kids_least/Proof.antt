@@ -15,8 +15,8 @@ smaller-requires-2 c κs = search needs
 
 returns : tie.Need-returns
 unfolding inOrder smallestBy
-returns c =
-    c .smaller2 .ensures ∙ rw (c .before .smaller .ensures, eq-eqb _ _ (c .before .before .if1 .taken))
+returns c = λ rule.
+    c .smaller2 .ensures rule ∙ rw (c .before .smaller .ensures rule, eq-eqb _ _ (c .before .before .if1 .taken))
 
 smaller-requires-3 : tie.Need-smaller-requires-3
 smaller-requires-3 c κs = search needs
@@ -26,8 +26,8 @@ smaller-requires-4 c κs = search needs
 
 returns-2 : tie.Need-returns-2
 unfolding inOrder smallestBy
-returns-2 c =
-    c .smaller4 .ensures ∙ rw (c .before .smaller3 .ensures, ne-eqb _ _ (c .before .before .if1 .left))
+returns-2 c = λ rule.
+    c .smaller4 .ensures rule ∙ rw (c .before .smaller3 .ensures rule, ne-eqb _ _ (c .before .before .if1 .left))
 
 pub kids-least-spec : {M : Type 1} → statement M
 kids-least-spec =

@@ -1,6 +1,8 @@
 use borrow.Author.Needs.{needs}
 use native.Mathlib.Omega.{arith}
 use Prim.Native.Nat.{_+_, _-_}
+use mathlib.Core.Path.{ap}
+use Rattle.record.specs.declared.Rule.{Rule}
 use Rattle.look.proofs.PairLaws.{both-given, first-room, second-room, pair-looks}
 use Rattle.look.proofs.look_pair.Statement.{statement}
 use Rattle.look.proofs.look_pair.Tie as tie
@@ -69,52 +71,32 @@ part-pair-damaged-end-2 c =
     let s = c .before .before .before .before .before .before .before .before .before .before .before .before .before .before .before .before .before .before .before .before .before .before .args in
     omega (arith, both-given (s .parts .sizes) (s .first) (s .second) (s .words .now) _ _ (c .before .before .before .before .before .before .before .before .before .before .before .before .before .before .before .before .before .before .before .before .before .before .pre) _ (c .before .path-words .ensures .0))
 
+rule-requires : tie.Need-rule-requires
+rule-requires c κs = search needs
+
 pair-damaged-requires : tie.Need-pair-damaged-requires
 pair-damaged-requires c κs =
-    let s = c .before .before .before .before .before .before .before .before .before .before .before .before .before .before .before .before .before .before .before .before .before .before .before .before .before .before .args in
-    let n = c .before .before .before .before .before .path-words .result in
-    let e = c .before .before .before .before .before .path-words .ensures .0 in
-    let p = c .before .before .before .before .before .before .before .before .before .before .before .before .before .before .before .before .before .before .before .before .before .before .before .before .before .before .pre in
-    ((first-room (s .parts .sizes) (s .first) (s .second) (s .words .now) (s .w .now) (s .beside .now) p n e (n - 0) (omega arith), omega (arith, p .siblings, c .before .before .before .before .before .before .before .before .before .before .before .before .before .before .show-pair .kept .1 .0)), ((second-room (s .parts .sizes) (s .first) (s .second) (s .words .now) (s .w .now) (s .beside .now) p n e (n + n - n) (omega arith), search needs), search needs))
+    let s = c .before .before .before .before .before .before .before .before .before .before .before .before .before .before .before .before .before .before .before .before .before .before .before .before .before .before .before .args in
+    let n = c .before .before .before .before .before .before .path-words .result in
+    let e = c .before .before .before .before .before .before .path-words .ensures .0 in
+    let p = c .before .before .before .before .before .before .before .before .before .before .before .before .before .before .before .before .before .before .before .before .before .before .before .before .before .before .before .pre in
+    ((first-room (s .parts .sizes) (s .first) (s .second) (s .words .now) (s .w .now) (s .beside .now) p n e (n - 0) (omega arith), omega (arith, p .siblings, c .before .before .before .before .before .before .before .before .before .before .before .before .before .before .before .show-pair .kept .1 .0)), ((second-room (s .parts .sizes) (s .first) (s .second) (s .words .now) (s .w .now) (s .beside .now) p n e (n + n - n) (omega arith), search needs), (search needs, ap (λ (r : Rule). r .leaves) (c .rule .ensures))))
 
 same-length : tie.Need-same-length
 same-length c =
-    omega (arith, c .before .before .before .before .before .before .before .before .before .before .before .before .before .before .before .before .before .show-pair .kept .0)
+    omega (arith, c .before .before .before .before .before .before .before .before .before .before .before .before .before .before .before .before .before .before .show-pair .kept .0)
 
 same-length-2 : tie.Need-same-length-2
 same-length-2 c =
-    omega (arith, c .before .before .before .before .before .before .before .before .before .before .before .before .before .before .before .before .before .show-pair .kept .1 .0)
+    omega (arith, c .before .before .before .before .before .before .before .before .before .before .before .before .before .before .before .before .before .before .show-pair .kept .1 .0)
 
 returns : tie.Need-returns
 returns c =
-    let s = c .before .before .before .before .before .before .before .before .before .before .before .before .before .before .before .before .before .before .before .before .before .before .before .before .before .before .before .before .before .args in
-    let n = c .before .before .before .before .before .before .before .before .path-words .result in
-    pair-looks (s .parts .sizes) (s .first) (s .second) (s .words .now) (s .w .now) (s .beside .now) (c .before .before .before .before .before .before .before .before .before .before .before .before .before .before .before .before .before .before .before .before .before .before .before .before .before .before .before .before .before .pre) n (c .before .before .before .before .before .before .before .before .path-words .ensures .0) (s .root) _ _ _ _ _ (c .before .before .before .before .before .before .before .before .before .before .before .before .before .before .before .before .before .show-pair .ensures) (s .parts .t) (s .parts .c) (s .parts .least) (n - 0) (n + n - n) _ (omega arith) (omega arith) (c .before .before .pair-damaged .ensures)
+    let s = c .before .before .before .before .before .before .before .before .before .before .before .before .before .before .before .before .before .before .before .before .before .before .before .before .before .before .before .before .before .before .args in
+    let n = c .before .before .before .before .before .before .before .before .before .path-words .result in
+    pair-looks (s .parts .sizes) (s .first) (s .second) (s .words .now) (s .w .now) (s .beside .now) (c .before .before .before .before .before .before .before .before .before .before .before .before .before .before .before .before .before .before .before .before .before .before .before .before .before .before .before .before .before .before .pre) n (c .before .before .before .before .before .before .before .before .before .path-words .ensures .0) (s .root) _ _ _ _ _ (c .before .before .before .before .before .before .before .before .before .before .before .before .before .before .before .before .before .before .show-pair .ensures) (s .parts .t) (s .parts .c) (s .parts .least) _ (c .before .before .before .rule .ensures) (n - 0) (n + n - n) _ (omega arith) (omega arith) (c .before .before .pair-damaged .ensures)
 
 pub look-pair-spec : {M : Type 1} → statement M
 look-pair-spec =
     tie.close
-    (tie.spec
-    mul-way-words
-    way-words-requires
-    mul-siblings
-    sub-all
-    part-slots-start
-    part-slots-end
-    sub-others
-    part-sibs-start
-    part-sibs-end
-    show-pair-requires
-    path-words-requires
-    add-whole
-    sub-pair-damaged
-    part-pair-damaged-start
-    part-pair-damaged-end
-    mul-pair-damaged
-    sub-pair-damaged-2
-    part-pair-damaged-start-2
-    part-pair-damaged-end-2
-    pair-damaged-requires
-    same-length
-    same-length-2
-    returns)
+    (tie.spec mul-way-words way-words-requires mul-siblings sub-all part-slots-start part-slots-end sub-others part-sibs-start part-sibs-end show-pair-requires path-words-requires add-whole sub-pair-damaged part-pair-damaged-start part-pair-damaged-end mul-pair-damaged sub-pair-damaged-2 part-pair-damaged-start-2 part-pair-damaged-end-2 rule-requires pair-damaged-requires same-length same-length-2 returns)

@@ -61,14 +61,14 @@ same-length-4 : tie.Need-same-length-4
 same-length-4 c = search needs
 
 returns : tie.Need-returns
-returns c =
+returns c = λ rule.
     let s = c .before .before .before .before .before .before .before .before .before .before .before .before .before .before .before .before .before .before .before .before .before .before .before .before .before .before .before .before .before .before .before .before .before .before .before .before .before .before .before .args in
     let room = c .before .before .before .before .before .before .before .before .before .before .before .before .before .before .before .before .before .before .before .before .before .before .before .before .before .before .before .before .before .before .before .before .before .before .before .before .before .before .before .pre in
     let top : c .before .before .before .before .before .before .before .before .before .before .before .before .read .result ≡ recordAt (c .before .before .before .before .before .before .before .before .before .before .before .before .before .before .before .before .before .before .before .before .before .before .before .before .before .before .work-path .last .1 .1 .0) 0 = c .before .before .before .before .before .before .before .before .before .before .before .before .read .ensures in
-    pair-worked (s .sizes) (s .first) (s .second) (s .new) (s .w .now) (s .beside .now) (s .words .now) (room .one .sizes .height .0) (room .one .siblings)
-    _ _ _ (c .before .before .before .before .before .before .before .before .before .before .before .before .before .before .before .before .load-siblings .ensures .laid) (c .before .before .before .before .before .before .before .before .before .before .write .ensures) (top ∙ top-read (s .sizes) (s .first) (s .second) (s .new) (s .w .now) (s .beside .now) (s .words .now) (room .one .sizes .height .0) (room .one .siblings) _ _ _ _ (c .before .before .before .before .before .before .before .before .before .before .before .before .before .before .before .before .before .before .before .before .before .before .before .before .before .before .before .before .before .before .before .before .seat .ensures) (c .before .before .before .before .before .before .before .before .before .before .before .before .before .before .before .before .before .before .before .before .before .before .before .before .before .before .work-path .ensures))
+    pair-worked rule (s .sizes) (s .first) (s .second) (s .new) (s .w .now) (s .beside .now) (s .words .now) (room .one .sizes .height .0) (room .one .siblings)
+    _ _ _ (c .before .before .before .before .before .before .before .before .before .before .before .before .before .before .before .before .load-siblings .ensures .laid) (c .before .before .before .before .before .before .before .before .before .before .write .ensures) (top ∙ top-read rule (s .sizes) (s .first) (s .second) (s .new) (s .w .now) (s .beside .now) (s .words .now) (room .one .sizes .height .0) (room .one .siblings) _ _ _ _ (c .before .before .before .before .before .before .before .before .before .before .before .before .before .before .before .before .before .before .before .before .before .before .before .before .before .before .before .before .before .before .before .before .seat .ensures) (c .before .before .before .before .before .before .before .before .before .before .before .before .before .before .before .before .before .before .before .before .before .before .before .before .before .before .work-path .ensures rule))
     _ _ _ _ _ _ _ _ (c .before .before .before .before .before .before .before .before .before .before .before .before .before .before .before .before .before .before .before .before .before .before .before .before .before .before .work-path .kept .0 ∙ c .before .before .before .before .before .before .before .before .before .before .before .before .before .before .before .before .before .before .before .before .before .before .before .before .before .before .before .before .before .before .before .before .seat .kept .0 ∙ room .one .slots) (omega (arith, room .fetched))
-    (c .before .before .before .before .before .before .before .before .before .before .before .before .before .before .before .before .before .before .before .before .before .before .before .before .before .before .before .before .before .before .before .before .seat .ensures) (c .before .before .before .before .before .before .before .before .before .before .before .before .before .before .before .before .before .before .before .before .before .before .before .before .before .before .work-path .ensures) (c .before .before .before .before .before .before .before .before .before .before .before .before .before .before .before .before .before .before .before .before .load-path .ensures) (c .before .before .before .before .work-path2 .ensures)
+    (c .before .before .before .before .before .before .before .before .before .before .before .before .before .before .before .before .before .before .before .before .before .before .before .before .before .before .before .before .before .before .before .before .seat .ensures) (c .before .before .before .before .before .before .before .before .before .before .before .before .before .before .before .before .before .before .before .before .before .before .before .before .before .before .work-path .ensures rule) (c .before .before .before .before .before .before .before .before .before .before .before .before .before .before .before .before .before .before .before .before .load-path .ensures) (c .before .before .before .before .work-path2 .ensures rule)
 
 pub work-pair-spec : {M : Type 1} → statement M
 work-pair-spec =

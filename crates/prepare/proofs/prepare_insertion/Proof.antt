@@ -1,6 +1,7 @@
 use borrow.Author.Needs.{needs}
 use native.Mathlib.Omega.{arith}
 use mathlib.Core.Path.{_∙_}
+use Rattle.settle.specs.Left.{ruleAfter}
 use Rattle.prepare.proofs.PreparedLaws.{fetched-bad, left-judged}
 use Rattle.prepare.proofs.prepare_insertion.Statement.{statement}
 use Rattle.prepare.proofs.prepare_insertion.Tie as tie
@@ -69,7 +70,7 @@ same-length-2 c =
 returns-2 : tie.Need-returns-2
 returns-2 c =
     let s = c .before .before .before .before .before .before .before .before .before .before .before .before .before .before .before .before .before .before .before .before .before .before .before .before .before .before .before .before .before .before .before .args in
-    left-judged (s .parts) (s .root) (s .words .now) (s .first) (s .second) (s .new) _ _ _ (c .before .before .before .before .before .before .before .before .before .before .before .before .before .before .before .before .before .before .before .before .before .look-pair .ensures) (c .before .before .before .before .before .before .before .before .before .before .before .before .before .before .before .before .before .before .before .before .before .before .before .before .before .before .before .before .before .before .before .pre .0 .parts .sizes .height .0) _ (s .one .now) (s .two .now) _ _ _ (c .before .before .before .before .before .before .before .before .before .before .before .before .work-pair .ensures) _ (c .before .before .before .save-root .ensures) (c .before .before .before .before .before .before .before .before .before .before .before .before .before .before .before .before .if1 .left) _ (c .judged .ensures)
+    left-judged (s .parts) (s .root) (s .words .now) (s .first) (s .second) (s .new) _ _ _ (c .before .before .before .before .before .before .before .before .before .before .before .before .before .before .before .before .before .before .before .before .before .look-pair .ensures) (c .before .before .before .before .before .before .before .before .before .before .before .before .before .before .before .before .before .before .before .before .before .before .before .before .before .before .before .before .before .before .before .pre .0 .parts .sizes .height .0) _ (s .one .now) (s .two .now) _ _ _ (c .before .before .before .before .before .before .before .before .before .before .before .before .work-pair .ensures (ruleAfter (s .parts))) _ (c .before .before .before .save-root .ensures) (c .before .before .before .before .before .before .before .before .before .before .before .before .before .before .before .before .if1 .left) _ (c .judged .ensures)
 
 pub prepare-insertion-spec : {M : Type 1} → statement M
 prepare-insertion-spec =

@@ -1,6 +1,7 @@
 use borrow.Author.Needs.{needs}
 use native.Mathlib.Omega.{arith}
 use mathlib.Core.Path.{_∙_}
+use Rattle.settle.specs.Left.{ruleAfter}
 use Rattle.clearing.specs.Removal.{named}
 use Rattle.removal.proofs.RemovalLaws.{fetched-bad, left-judged}
 use Rattle.removal.proofs.prepare_removal.Statement.{statement}
@@ -61,7 +62,7 @@ same-length c =
 returns-2 : tie.Need-returns-2
 returns-2 c =
     let s = c .before .before .before .before .before .before .before .before .before .before .before .before .before .before .before .before .before .before .before .before .before .before .before .before .before .args in
-    left-judged (s .parts) (s .root) (s .words .now) (s .leaf) (named (s .label) (s .stamp)) _ _ _ (c .before .before .before .before .before .before .before .before .before .before .before .before .before .before .before .before .look-path .ensures) _ _ (c .before .before .before .before .before .before .before .before .remove-path .ensures) _ (c .before .live-after .ensures) (c .before .before .before .before .before .before .before .before .before .before .before .if1 .left) _ (c .judged .ensures)
+    left-judged (s .parts) (s .root) (s .words .now) (s .leaf) (named (s .label) (s .stamp)) _ _ _ (c .before .before .before .before .before .before .before .before .before .before .before .before .before .before .before .before .look-path .ensures) _ _ (c .before .before .before .before .before .before .before .before .remove-path .ensures (ruleAfter (s .parts))) _ (c .before .live-after .ensures) (c .before .before .before .before .before .before .before .before .before .before .before .if1 .left) _ (c .judged .ensures)
 
 pub prepare-removal-spec : {M : Type 1} → statement M
 prepare-removal-spec =

@@ -14,10 +14,10 @@ use Rattle.sound.proofs.bucket_sound.Statement.{statement}
 use Rattle.sound.proofs.bucket_sound.Tie as tie
 
 abbrev Inv-loop : tie.InvT-loop
-Inv-loop part sizes next level bucket n i₀ i = (i ≤ n) × (every (sound (sizes .h) next level bucket) (take i (records part)) ≡ true)
+Inv-loop part sizes rule level bucket n i₀ i = (i ≤ n) × (every (sound (sizes .h) rule level bucket) (take i (records part)) ≡ true)
 
 abbrev μ-loop : tie.MeasureT-loop
-μ-loop part sizes next level bucket n i₀ i = n - i
+μ-loop part sizes rule level bucket n i₀ i = n - i
 
 loop-holds : tie.Need-loop-holds Inv-loop μ-loop
 loop-holds c = (search needs, pass-starts _)

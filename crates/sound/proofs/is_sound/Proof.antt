@@ -14,29 +14,23 @@ returns : tie.Need-returns
 unfolding sound
 returns c = rw (← c .before .is-dummy .ensures, c .if1 .taken)
 
-leaves-requires : tie.Need-leaves-requires
-leaves-requires c κs = search needs
-
 is-proper-requires : tie.Need-is-proper-requires
 is-proper-requires c κs = search needs
 
 returns-2 : tie.Need-returns-2
 unfolding sound
 returns-2 c =
-    let p = rw (c .before .before .leaves .ensures) at (c .before .is-proper .ensures) in
-    rw (← c .before .before .before .before .is-dummy .ensures, c .before .before .before .if1 .left, refuses p (c .if2 .taken))
+    rw (← c .before .before .before .is-dummy .ensures, c .before .before .if1 .left, refuses (c .before .is-proper .ensures) (c .if2 .taken))
 
 holds-requires : tie.Need-holds-requires
 holds-requires c κs =
-    let p = rw (c .before .before .leaves .ensures) at (c .before .is-proper .ensures) in
-    let s = proper-true _ _ _ (passes p (c .if2 .left)) in
-    (omega arith, (s .label, omega arith))
+    let s = proper-true _ _ (passes (c .before .is-proper .ensures) (c .if2 .left)) in
+    (omega arith, (omega (arith, s .label), omega arith))
 
 returns-3 : tie.Need-returns-3
 unfolding sound
 returns-3 c =
-    let p = rw (c .before .before .before .leaves .ensures) at (c .before .before .is-proper .ensures) in
-    rw (← c .before .before .before .before .before .is-dummy .ensures, c .before .before .before .before .if1 .left, passes p (c .before .if2 .left)) (c .holds .ensures)
+    rw (← c .before .before .before .before .is-dummy .ensures, c .before .before .before .if1 .left, passes (c .before .before .is-proper .ensures) (c .before .if2 .left)) (c .holds .ensures)
 
 pub is-sound-spec : {M : Type 1} → statement M
 is-sound-spec =
@@ -44,7 +38,6 @@ is-sound-spec =
     (tie.spec
     is-dummy-requires
     returns
-    leaves-requires
     is-proper-requires
     returns-2
     holds-requires

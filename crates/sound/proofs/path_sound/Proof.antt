@@ -14,12 +14,12 @@ use Rattle.sound.proofs.path_sound.Statement.{statement}
 use Rattle.sound.proofs.path_sound.Tie as tie
 
 abbrev Inv-loop : tie.InvT-loop
-Inv-loop path sizes leaf next h z size level₀ a₀ level a =
+Inv-loop path sizes leaf rule h z size level₀ a₀ level a =
     Walking (sizes .z) (sizes .h) path a level
-    × Passed (λ d. every (sound (sizes .h) next d (pathBucket (sizes .h) leaf d)) (shownIn (sizes .z) path d .least ∷ shownIn (sizes .z) path d .slots)) (sizes .h) 1 level
+    × Passed (λ d. every (sound (sizes .h) rule d (pathBucket (sizes .h) leaf d)) (shownIn (sizes .z) path d .least ∷ shownIn (sizes .z) path d .slots)) (sizes .h) 1 level
 
 abbrev μ-loop : tie.MeasureT-loop
-μ-loop path sizes leaf next h z size level₀ a₀ level a = suc (sizes .h) - level
+μ-loop path sizes leaf rule h z size level₀ a₀ level a = suc (sizes .h) - level
 
 add-size : tie.Need-add-size Inv-loop μ-loop
 add-size c = search needs
@@ -29,7 +29,7 @@ mul-size c = search needs
 
 loop-holds : tie.Need-loop-holds Inv-loop μ-loop
 loop-holds c =
-    (record { room = c .before .pre .buckets; since = omega arith; part = omega arith }, passed-starts _ _ _)
+    (record { room = c .before .pre .0 .buckets; since = omega arith; part = omega arith }, passed-starts _ _ _)
 
 add-e : tie.Need-add-e Inv-loop μ-loop
 add-e c = omega (arith, walking-ends (c .before .loop .inv .0) (c .loop-test .taken))

@@ -12,11 +12,11 @@ use Rattle.sound.proofs.siblings_sound.Statement.{statement}
 use Rattle.sound.proofs.siblings_sound.Tie as tie
 
 abbrev Inv-loop : tie.InvT-loop
-Inv-loop sibs sizes leaf next from h level₀ level =
-    Passed (λ d. sound (sizes .h) next d (siblingOf (pathBucket (sizes .h) leaf d)) (besideIn sibs d)) (sizes .h) from level
+Inv-loop sibs sizes leaf rule from h level₀ level =
+    Passed (λ d. sound (sizes .h) rule d (siblingOf (pathBucket (sizes .h) leaf d)) (besideIn sibs d)) (sizes .h) from level
 
 abbrev μ-loop : tie.MeasureT-loop
-μ-loop sibs sizes leaf next from h level₀ level = suc (sizes .h) - level
+μ-loop sibs sizes leaf rule from h level₀ level = suc (sizes .h) - level
 
 loop-holds : tie.Need-loop-holds Inv-loop μ-loop
 loop-holds c = passed-starts _ _ _

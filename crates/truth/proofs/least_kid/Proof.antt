@@ -6,7 +6,7 @@ use Rattle.truth.proofs.least_kid.Statement.{statement}
 use Rattle.truth.proofs.least_kid.Tie as tie
 
 returns : tie.Need-returns
-returns c = kids-none _ _ _ _ _ _ (c .if1 .taken)
+returns c = λ rule. kids-none _ _ _ _ _ _ rule (c .if1 .taken)
 
 add-read : tie.Need-add-read
 add-read c = search needs
@@ -34,9 +34,9 @@ kids-least-requires : tie.Need-kids-least-requires
 kids-least-requires c κs = search needs
 
 returns-2 : tie.Need-returns-2
-returns-2 c =
+returns-2 c = λ rule.
     let s = c .before .before .before .before .before .before .before .before .args in
-    kids-both (s .sizes .h) (s .leaf) (s .sizes .z) (s .path .now) (s .sibs .now) (s .level) (c .before .before .before .before .if1 .left) (c .before .before .before .before .before .before .before .before .pre .0 .buckets) (c .before .before .before .before .before .before .before .before .pre .1) _ _ _ _ (c .before .bucket-at .ensures) (c .before .before .before .read .ensures) (c .before .before .read2 .ensures) (c .kids-least .ensures)
+    kids-both (s .sizes .h) (s .leaf) (s .sizes .z) (s .path .now) (s .sibs .now) (s .level) (c .before .before .before .before .if1 .left) (c .before .before .before .before .before .before .before .before .pre .0 .buckets) (c .before .before .before .before .before .before .before .before .pre .1) rule _ _ _ _ (c .before .bucket-at .ensures) (c .before .before .before .read .ensures) (c .before .before .read2 .ensures) (c .kids-least .ensures rule)
 
 pub least-kid-spec : {M : Type 1} → statement M
 least-kid-spec =

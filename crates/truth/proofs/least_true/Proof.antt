@@ -38,9 +38,9 @@ same-requires : tie.Need-same-requires
 same-requires c κs = search needs
 
 returns : tie.Need-returns
-returns c =
+returns c = λ rule.
     let s = c .before .before .before .before .before .before .args in
-    level-true (s .sizes .z) (s .path .now) (s .sizes .h) (s .level) (c .before .before .before .before .before .before .pre .0 .buckets) (omega arith) (omega arith) _ _ _ _ _ (c .before .read .ensures) (c .before .before .before .least-kid .ensures) (c .before .before .least-over .ensures) (c .same .ensures)
+    level-true (s .sizes .z) (s .path .now) (s .sizes .h) (s .level) (c .before .before .before .before .before .before .pre .0 .buckets) (omega arith) (omega arith) rule _ _ _ _ _ (c .before .read .ensures) (c .before .before .before .least-kid .ensures rule) (c .before .before .least-over .ensures rule) (c .same .ensures)
 
 pub least-true-spec : {M : Type 1} → statement M
 least-true-spec =

@@ -20,9 +20,9 @@ same-length-2 : tie.Need-same-length-2
 same-length-2 c = search needs
 
 returns : tie.Need-returns
-returns c =
+returns c = λ rule.
     let s = c .before .before .before .before .before .before .before .before .before .before .before .before .before .before .args in
-    path-worked (s .sizes) (s .leaf) (records (s .beside .now)) (records (s .w .now)) _ _ _ _ (c .before .before .before .before .before .before .before .before .before .evict .ensures) (c .before .before .before .before .mend-path .ensures) (c .least-over .ensures)
+    path-worked rule (s .sizes) (s .leaf) (records (s .beside .now)) (records (s .w .now)) _ _ _ _ (c .before .before .before .before .before .before .before .before .before .evict .ensures) (c .before .before .before .before .mend-path .ensures rule) (c .least-over .ensures rule)
 
 pub work-path-spec : {M : Type 1} → statement M
 work-path-spec =

@@ -21,9 +21,9 @@ same-length-2 : tie.Need-same-length-2
 same-length-2 c = search needs
 
 returns : tie.Need-returns
-returns c =
+returns c = λ rule.
     let s = c .before .before .before .before .before .before .before .before .before .before .before .before .before .before .before .before .args in
-    path-removed (s .sizes) (s .leaf) (named (s .label) (s .stamp)) (records (s .sibs .now)) (s .root) (s .w .now) _ _ _ _ (c .before .before .before .before .before .before .before .before .before .before .before .clear .ensures) (c .before .before .before .before .before .before .work-path .ensures) (c .save-root .ensures)
+    path-removed rule (s .sizes) (s .leaf) (named (s .label) (s .stamp)) (records (s .sibs .now)) (s .root) (s .w .now) _ _ _ _ (c .before .before .before .before .before .before .before .before .before .before .before .clear .ensures) (c .before .before .before .before .before .before .work-path .ensures rule) (c .save-root .ensures)
 
 pub remove-path-spec : {M : Type 1} → statement M
 remove-path-spec =
