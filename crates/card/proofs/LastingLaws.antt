@@ -20,7 +20,7 @@ use Rattle.request.specs.declared.job.Job.{Job}
 use Rattle.request.specs.declared.job.Job.the-variants.{Path, Pair}
 use Rattle.request.specs.Job.{jobOf}
 use Rattle.settle.specs.Left.{pathBad, pairBad, removal, badLeft, removalDamaged, insertionDamaged}
-use Rattle.removal.proofs.ExtractLaws.{extract-same, extract-found}
+use Rattle.removal.proofs.ExtractLaws.{extract-damaged, extract-same, extract-found}
 use Rattle.finishes.specs.Finishes.{leftFor, damagedFor}
 use Rattle.card.specs.declared.Card.{Card}
 use Rattle.card.specs.declared.Done.{Done}
@@ -40,6 +40,15 @@ left-fits : (p : Parts) (root : List Record) (j : Job) (ws : List ℕ) → damag
 unfolding removalDamaged insertionDamaged
 left-fits p root (Path leaf label stamp) ws e = neither (pathBad p root ws leaf) _ .0 e .1
 left-fits p root (Pair first second new) ws e = neither (pairBad p root ws first second) _ .0 e .1
+
+-- ExtractMin's 12 is given exactly where the removal of "the root's least record", in all four numbers, is Damaged
+pub extracts-damaged : (k : Card) (ws : List ℕ) → length (k .root) ≡ 64 → k .waiting ≡ For Extract → firstGiven (entryTable k (length ws)) ≡ 0
+    → damagedBy k Extract ws ≡ removalDamaged (partsOf k) (k .root) ws (k .least .label) (same (k .least))
+unfolding damagedBy
+extracts-damaged k ws long busy entry =
+    let n = entered k (length ws) Extract busy entry in
+    let room = request-ready k ws Extract n in
+    extract-damaged (partsOf k) (k .root) ws (omega (arith, long, room .parts .sizes .roots)) (least-proper k (n .card) (extractable k (n .request) .some)) room
 
 module _ (k : Card) (ws : List ℕ) (passes : firstGiven (finishTable k ws) ≡ 0) where
   entry : firstGiven (entryTable k (length ws)) ≡ 0

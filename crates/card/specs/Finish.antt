@@ -58,7 +58,7 @@ module _ (k : Card) where
   abbrev pub entryTable : ℕ → List Refusal
   entryTable room = callTable k (Finish room)
 
-  -- of what waits. Where nothing does, 3 is given, and nothing is worked on
+  -- row 12, what comes of it and the words afterwards, by what waits. Where nothing does, 3 is given, and nothing is worked on
   abbrev pub damagedRows : Waiting → List ℕ → List Refusal
   damagedRows Nothing ws = []
   damagedRows (For r) ws = row 12 (damagedBy r ws) ∷ []

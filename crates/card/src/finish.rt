@@ -47,6 +47,7 @@ impl Card {
             return self.refuse(number);
         }
         let waiting = self.waiting;
+        // nothing waits: `why` has given 3 already
         let Waiting::For(request) = waiting else {
             return self.refuse(IDLE);
         };

@@ -1,9 +1,10 @@
 -- The queue's order of events: by some numbers, one after the other, and so total and transitive. No law below these
 -- unfolds it to numbers. Assumes nothing.
-use Prim.Native.Nat.{ℕ}
+use Prim.Native.Nat.{ℕ, _≤_}
 use mathlib.Core.Bool.{true, false}
 use mathlib.Core.List.{List, [], _∷_}
 use mathlib.Core.Path.{_≡_, sym, _∙_}
+use borrow.Author.Tests.{leb-true}
 use Rattle.record.specs.Order.{lexically}
 use Rattle.record.proofs.LexicalLaws.{lex-total, lex-trans, leb-last}
 use Rattle.demands.specs.Queue.{Event, noDearer}
@@ -17,6 +18,10 @@ numbers = final ∷ []
 
 pub dear-numbers : (a b : Event) → noDearer a b ≡ lexically numbers a b
 dear-numbers a b = rw (leb-last (final a) (final b))
+
+-- an event that is no dearer has no greater key
+pub dear-keys : (a b : Event) → noDearer a b ≡ true → a .key ≤ b .key
+dear-keys a b h = leb-true (a .key) (b .key) h
 
 pub dear-total : (a b : Event) → noDearer a b ≡ false → noDearer b a ≡ true
 dear-total a b h = dear-numbers b a ∙ lex-total numbers a b (sym (dear-numbers a b) ∙ h)

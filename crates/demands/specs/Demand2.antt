@@ -55,13 +55,13 @@ module _ (s : Sizes) (u : World) (p : Waiting) (q : Queue) (c : Call) (o : Outco
     pub same : says (o .answer) ≡ reply q (requestOf p c)
 
 -- the words lent to a finish are fewer than the pending request needs
-abbrev pub fewFor : Sizes → Queue → Waiting → ℕ → Type 0
-fewFor s q Nothing room = ⊥
-fewFor s q (For r) room = room < wordsAsked s (jobOf (partsTold s q) r)
+abbrev pub fewFor : Sizes → Waiting → Queue → ℕ → Type 0
+fewFor s Nothing q room = ⊥
+fewFor s (For r) q room = room < wordsAsked s (jobOf (partsTold s q) r)
 
 abbrev pub TooFew : Sizes → Waiting → Queue → Call → Type 0
 TooFew s p q (begin asked places) = ⊥
-TooFew s p q (finish words) = fewFor s q p (length words)
+TooFew s p q (finish words) = fewFor s p q (length words)
 TooFew s p q withdraw = ⊥
 TooFew s p q findMin = ⊥
 

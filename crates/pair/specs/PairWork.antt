@@ -46,8 +46,8 @@ firstSiblings s ws d = siblingAt (s .z) ws (2 * s .h) (d - 2)
 abbrev pub secondSiblings : Sizes → List ℕ → ℕ → Record
 secondSiblings s ws d = siblingAt (s .z) ws (2 * s .h) (s .h - 1 + (d - 2))
 
--- what the work on an Insert's two paths leaves in the scratches of the way and of each path's buckets, and its answer: the
--- least records of both paths, evicted one after the other.
+-- what the work on an Insert's two paths, evicted one after the other, leaves in the scratches of the way and of each path's
+-- buckets, with their least records; and its answer, the root's
 pub record PairWorked
     (rule : Rule) (s : Sizes) (first second : Leaf) (new : Record) (beside₁ beside₂ : ℕ → Record) (way slots₂ : List Record)
     (w path₁ path₂ : List ℕ) (x : Record) : Type 0 where

@@ -15,6 +15,6 @@ partsFor s t c least = record { sizes = s; t = t; c = c; least = least }
 abbrev pub nextStamp : Parts → Stamp
 nextStamp p = record { 0 = p .t }
 
--- "stamp below the card's count of finished requests": what is proper on a card
+-- "label below N, and stamp below the card's count of finished requests": what is proper on a card
 abbrev pub ruleOf : Parts → Rule
 ruleOf p = ruleFor (leavesOf (p .sizes .h)) (p .t)

@@ -3,7 +3,9 @@
 use Prim.Native.Nat.{ℕ, zero, suc, _*_, _+_, _≤_}
 use mathlib.Core.Bool.{Bool, true, false}
 use mathlib.Core.List.{List, [], _∷_, List·Memᴰ, List·Memᴰ·head, List·Memᴰ·tail}
+use mathlib.Core.Logic.{inl, inr}
 use mathlib.Core.Path.{_≡_, refl}
+use mathlib.Mathlib.Data.Bool.Basic.{dichotomy}
 use native.Mathlib.Omega.{arith}
 use lib.ListN.{length}
 use Rattle.record.specs.declared.Record.{Record}
@@ -51,6 +53,11 @@ module _ (p : Parts) (root : List Record) (ws : List ℕ) (full : p .sizes .r �
   unfolding removalDamaged
   fetched-good false e f = refl
   fetched-good true e f = rw e at f
+
+  -- it is Damaged exactly where the removal of the root's least record itself is
+  pub extract-damaged : removalDamaged p root ws (m .label) byName ≡ removalDamaged p root ws (m .label) (same m)
+  unfolding removalDamaged
+  extract-damaged = elim (dichotomy (pathBad p root ws (m .label))) [ inl f ↦ rw (f, left-same f) | inr b ↦ rw b ]
 
   module _ (good : removalDamaged p root ws (m .label) byName ≡ false) where
     -- what an ExtractMin leaves is what the paper says: "replaces the root's least record .. by the dummy"

@@ -1,5 +1,5 @@
 // A job: what a request, on a card of these parts, asks of the tree. What is listed, fetched, worked out and stored for a request
-// is told by its job alone; no crate below the card's calls looks at the request's kind.
+// is told by its job alone; only its refusals and its answer go by its kind.
 ghost use mathlib.Core.Path.{_≡_};
 ghost use Rattle.request.specs.Job.{jobOf};
 use crate::Request;

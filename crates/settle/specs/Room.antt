@@ -1,5 +1,5 @@
--- What a finish is asked for: sizes, leaves and counts of a card that is no BadCard, and words that are not too short; the
--- scratches cut to the sizes. Assumes nothing.
+-- What a finish is asked for: sizes, leaves and counts of a card that is no BadCard, and words that are not too short.
+-- Assumes nothing.
 use Prim.Native.Nat.{ℕ, _+_, _*_, _-_, _≤_, _<_}
 use mathlib.Core.List.{List}
 use lib.ListN.{length}

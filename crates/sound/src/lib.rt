@@ -2,8 +2,8 @@
 // bucket". That bucket, for a sibling's least record, is the sibling itself.
 //
 // The checks are lent the part of the fetched words that holds the path's h whole buckets, and a scratch where the least
-// record of level d's sibling stands at place d - 1. A rule is that of the tree: its labels are the tree's leaves. Stands on `record`,
-// `path` and the definitions of `gather`.
+// record of level d's sibling stands at place d - 1. The rule is the tree's: its `leaves` is N. Stands on `record`, `path` and the
+// definitions of `gather`.
 ghost use mathlib.Core.Path.{_≡_};
 ghost use Prim.Native.Nat.{_*_, _≤_, _<_, _^_};
 ghost use lib.ListN.{length};
