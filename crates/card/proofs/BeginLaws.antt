@@ -65,7 +65,7 @@ unfolding callTable callRows
 accepted k r room e =
     let a = none-given 13 (badCard k) _ (omega arith) e in
     let b = none-given 2 (waits (k .waiting)) _ (omega arith) (a .1) in
-    let c = append-none _ (request-numbered (k .sizes) (k .t) (k .c) (k .root) r) (b .1) in
+    let c = append-none _ (request-numbered (partsOf k) (k .root) r) (b .1) in
     let d = none-given 11 (ltb room (placesAsked (k .sizes .h) (jobOf (partsOf k) r))) [] (omega arith) (c .1) in
     record { card = good k (a .0); idle = b .0; request = c .0; place = ltb-false _ _ (d .0) }
 

@@ -2,7 +2,7 @@
 use Prim.Native.Nat.{ℕ, _≤_, _<_}
 use mathlib.Core.Bool.{true, false, true≢false}
 use mathlib.Core.List.{List}
-use mathlib.Core.Path.{_≡_, refl, sym, ap, subst, _∙_}
+use mathlib.Core.Path.{_≡_, refl, sym, subst, _∙_}
 use native.Mathlib.Omega.{arith}
 use lib.ListN.{length}
 use borrow.Author.Tests.{lt-ltb, le-ltb, ltb-false}
@@ -10,7 +10,7 @@ use Rattle.path.specs.Sizes.{leavesOf}
 use Rattle.path.proofs.SizesLaws.{in-range}
 use Rattle.lists.specs.declared.Listed.{Listed as Counts}
 use Rattle.lists.specs.BucketList.{fetchedFor}
-use Rattle.refusal.specs.Refusal.{Refusal, firstGiven}
+use Rattle.refusal.specs.Refusal.{firstGiven}
 use Rattle.refusal.proofs.RefusalLaws.{none-given, Numbered, none, next}
 use Rattle.parts.specs.declared.Parts.{Parts}
 use Rattle.request.specs.declared.Request.{Request}
@@ -22,11 +22,11 @@ use Rattle.request.specs.Tables.{waits}
 use Rattle.request.specs.Job.{jobOf}
 use Rattle.listing.specs.Listing.{leavesWithin}
 use Rattle.listing.proofs.ListingLaws.{countsFor, counts-for}
-use Rattle.settle.specs.Room.{Fits, RemovalRoom, InsertionRoom}
+use Rattle.settle.specs.Room.{Fits}
 use Rattle.finishes.specs.Finishes.{Finishable}
-use Rattle.checks.specs.Checks.{idleRows, shortRows, callRows}
+use Rattle.checks.specs.Checks.{shortRows, callRows}
 use Rattle.card.specs.declared.Card.{Card}
-use Rattle.card.specs.Tables.{leavesIn, partsOf, requestTable, waitingTable}
+use Rattle.card.specs.Tables.{leavesIn, partsOf, requestTable}
 use Rattle.card.specs.BadCard.{badCard}
 use Rattle.card.specs.Calls.{callTable}
 use Rattle.card.specs.Finish.{wordsNeeded, entryTable}

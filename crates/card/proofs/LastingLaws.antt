@@ -1,9 +1,9 @@
 -- What a finish that is not refused hands back, whatever words were lent: the card is no BadCard, and ExtractMin has taken out the
 -- root's least record. No honest rack is asked for: the fourth clause of Damaged sees to it. Assumes nothing.
 use Prim.Native.Nat.{ℕ, zero, suc}
-use mathlib.Core.Bool.{Bool, true, false}
+use mathlib.Core.Bool.{true, false}
 use mathlib.Core.List.{List, []}
-use mathlib.Core.Path.{_≡_, refl, sym, ap, subst, _∙_}
+use mathlib.Core.Path.{_≡_, refl, sym, subst}
 use mathlib.Mathlib.Data.Bool.Basic.{or-eq-false-eq-eq-false-and-eq-false as neither}
 use native.Mathlib.Omega.{arith}
 use lib.ListN.{length}
@@ -19,7 +19,7 @@ use Rattle.request.specs.declared.Waiting.the-variants.{Nothing, For}
 use Rattle.request.specs.declared.job.Job.{Job}
 use Rattle.request.specs.declared.job.Job.the-variants.{Path, Pair}
 use Rattle.request.specs.Job.{jobOf}
-use Rattle.settle.specs.Left.{pathBad, pairBad, removal, badLeft, removalDamaged, insertionDamaged}
+use Rattle.settle.specs.Left.{pathBad, pairBad, badLeft, removalDamaged, insertionDamaged}
 use Rattle.removal.proofs.ExtractLaws.{extract-damaged, extract-same, extract-found}
 use Rattle.finishes.specs.Finishes.{leftFor, damagedFor}
 use Rattle.card.specs.declared.Card.{Card}
@@ -29,7 +29,7 @@ use Rattle.card.specs.BadCard.{badCard}
 use Rattle.card.specs.Answers.{orRefused}
 use Rattle.card.specs.Calls.{freshCard, withWaiting, begun, withdrawn, foundMin}
 use Rattle.card.specs.Lasting.{Reached, start, begin, finish, withdraw, findMin}
-use Rattle.card.specs.Finish.{leftBy, damagedBy, entryTable, damagedRows, finishTable, finishedBy, finishedFor, finished}
+use Rattle.card.specs.Finish.{leftBy, damagedBy, entryTable, damagedRows, finishTable, finishedBy, finishedFor, finished, leastTaken}
 use Rattle.card.proofs.GoodLaws.{good, good-card}
 use Rattle.card.proofs.BeginLaws.{accepted, extractable, least-proper}
 use Rattle.card.proofs.CallLaws.{fresh-good, begun-good, withdrawn-good}
@@ -71,7 +71,7 @@ module _ (k : Card) (ws : List ℕ) (passes : firstGiven (finishTable k ws) ≡ 
 
   module _ (long : length (k .root) ≡ 64) (busy : k .waiting ≡ For Extract) where
     -- "ExtractMin replaces the root's least record .. by the dummy": the record of its label and stamp is that one, all four numbers
-    pub extracts-least : leftBy k Extract ws ≡ removal (partsOf k) (k .root) ws (k .least .label) (same (k .least))
+    pub extracts-least : leftBy k Extract ws ≡ leastTaken k ws
     unfolding leftBy damagedBy
     extracts-least =
         let n = entered k (length ws) Extract busy entry in

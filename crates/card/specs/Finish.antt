@@ -1,21 +1,23 @@
 -- Finish: document 01, "A request, step by step". What the work leaves and when it is Damaged stand in
 -- finishes/specs/Finishes.antt; here they are taken of the card and the request that waits on it. Assumes nothing.
 use Prim.Native.Nat.{ℕ}
-use mathlib.Core.Bool.{Bool}
+use mathlib.Core.Bool.{Bool, true, cond}
 use mathlib.Core.List.{List, [], _∷_, _++_}
 use mathlib.Core.Path.{_≡_}
 use lib.ListN.{length}
+use Rattle.record.specs.Standing.{same}
 use Rattle.lists.specs.BucketList.{wordsMoved}
 use Rattle.refusal.specs.Refusal.{Refusal, row, firstGiven, afterwards}
 use Rattle.request.specs.declared.Request.{Request}
+use Rattle.request.specs.declared.Request.the-variants.{Extract}
 use Rattle.request.specs.declared.Waiting.{Waiting}
 use Rattle.request.specs.declared.Waiting.the-variants.{Nothing, For}
 use Rattle.request.specs.Job.{jobOf}
 use Rattle.listing.specs.Listing.{wordsAsked}
-use Rattle.settle.specs.Left.{Left, wordsLeft, partsAfter}
+use Rattle.settle.specs.Left.{Left, removal, removalDamaged, wordsLeft, partsAfter}
 use Rattle.settle.specs.declared.Settled.{Settled}
 use Rattle.finishes.specs.Finishes.{leftFor, damagedFor}
-use Rattle.answers.specs.Answers.{answerTo}
+use Rattle.answers.specs.Answers.{numberOf, answerTo}
 use Rattle.checks.specs.declared.Call.the-variants.{Finish}
 use Rattle.card.specs.declared.Card.{Card}
 use Rattle.card.specs.declared.Done.{Done}
@@ -78,7 +80,22 @@ module _ (k : Card) where
   abbrev pub finished : List ℕ → Done
   finished ws = finishedFor (k .waiting) ws
 
--- the promise of a finish: its answer, and every fetched word afterwards
+-- "ExtractMin replaces the root's least record, wherever it is on the path, by the dummy". Its job looks for that record's label and
+-- stamp; what comes out is what the removal of the record itself leaves, in all four numbers, which finds it; and past 13, 3 and 11
+-- it is refused, with 12, exactly where that removal is Damaged.
+abbrev pub leastTaken : Card → List ℕ → Left
+leastTaken k ws = removal (partsOf k) (k .root) ws (k .least .label) (same (k .least))
+
+pub record TakesLeast (k : Card) (before after : List ℕ) (answer : Done) : Type 0 where
+  pub damaged :
+      firstGiven (entryTable k (length before)) ≡ 0
+      → numberOf (answer .answer) ≡ cond (removalDamaged (partsOf k) (k .root) before (k .least .label) (same (k .least))) 12 0
+  pub card : numberOf (answer .answer) ≡ 0 → answer .card ≡ cardLeft k (leastTaken k before)
+  pub words : numberOf (answer .answer) ≡ 0 → after ≡ wordsLeft (leastTaken k before) before
+  pub found : numberOf (answer .answer) ≡ 0 → leastTaken k before .found ≡ true
+
+-- the promise of a finish: its answer, every fetched word afterwards, and that an ExtractMin takes out the least record
 pub record Finishes (k : Card) (before after : List ℕ) (answer : Done) : Type 0 where
   pub call : Answered k (firstGiven (finishTable k before)) (finished k before) answer
   pub words : after ≡ afterwards (firstGiven (finishTable k before)) (wordsFor k (k .waiting) before) before
+  pub least : length (k .root) ≡ 64 → k .waiting ≡ For Extract → TakesLeast k before after answer

@@ -23,7 +23,7 @@ cardOf p root w = record { sizes = p .sizes; t = p .t; c = p .c; root = root; le
 
 -- the rows of a request, and of what waits, stand in request/specs/Tables.antt
 abbrev pub requestTable : Card → Request → List Refusal
-requestTable k r = requestRows (k .sizes) (k .t) (k .c) (k .root) r
+requestTable k r = requestRows (partsOf k) (k .root) r
 
 abbrev pub waitingTable : Card → Waiting → List Refusal
-waitingTable k w = waitingRows (k .sizes) (k .t) (k .c) (k .root) w
+waitingTable k w = waitingRows (partsOf k) (k .root) w

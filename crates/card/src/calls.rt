@@ -12,6 +12,7 @@ use answers::Answer;
 use checks::Call;
 use lists::Listed;
 use parts::Parts;
+use path::ROOT_PLACES;
 use path::Sizes;
 use record::Leaf;
 use record::Record;
@@ -32,7 +33,7 @@ impl Card {
             sizes: sizes,
             t: 0,
             c: 0,
-            root: [Record::DUMMY; 64],
+            root: [Record::DUMMY; ROOT_PLACES],
             least: least,
             waiting: waiting,
         }
@@ -59,7 +60,7 @@ impl Card {
             sizes: sizes,
             t: 0,
             c: 0,
-            root: [none; 64],
+            root: [none; ROOT_PLACES],
             least: none,
             waiting: waiting,
         }

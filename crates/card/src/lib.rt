@@ -7,6 +7,7 @@ mod calls;
 mod finish;
 
 use answers::Answer;
+use path::ROOT_PLACES;
 use path::Sizes;
 use record::Record;
 use request::Waiting;
@@ -15,7 +16,7 @@ pub struct Card {
     pub sizes: Sizes,
     pub t: u64,
     pub c: u64,
-    pub root: [Record; 64],
+    pub root: [Record; ROOT_PLACES],
     pub least: Record,
     pub waiting: Waiting,
 }

@@ -65,7 +65,7 @@ module _ (bad : Bool) (p : Parts) (root : List Record) (w : Waiting) (n : ℕ) (
   -- ---- begin: busy, or the request's own fault, or no room
   module _ (request : Request) (room : ℕ) where
     abbrev rows : List Refusal
-    rows = requestRows (p .sizes) (p .t) (p .c) root request
+    rows = requestRows p root request
 
     abbrev last : List Refusal
     last = row 11 (ltb room (placesAsked (p .sizes .h) (jobOf p request))) ∷ []
@@ -81,9 +81,9 @@ module _ (bad : Bool) (p : Parts) (root : List Record) (w : Waiting) (n : ℕ) (
 
       module _ (m : ℕ) (f : m ≡ firstGiven rows) where
         pub begin-fault : (m ≡ 0 → ⊥) → m ≡ firstGiven (callRows bad p root w (Begin request room))
-        begin-fault h = stops rows (request-numbered (p .sizes) (p .t) (p .c) root request) m f last h ∙ sym goes-to-rows
+        begin-fault h = stops rows (request-numbered p root request) m f last h ∙ sym goes-to-rows
 
         pub begin-room : m ≡ 0
             → firstGiven (callRows bad p root w (Begin request room)) ≡ cond (ltb room (placesAsked (p .sizes .h) (jobOf p request))) 11 0
         unfolding firstGiven
-        begin-room y = goes-to-rows ∙ goes-on rows (request-numbered (p .sizes) (p .t) (p .c) root request) m f last y
+        begin-room y = goes-to-rows ∙ goes-on rows (request-numbered p root request) m f last y

@@ -17,7 +17,7 @@ use Rattle.checks.specs.declared.Call.the-variants.{Min, Withdraw, Begin
 
 -- "a waiting request that begin would refuse (numbers 4 to 10)"
 abbrev pub badWaiting : Parts → List Record → Waiting → Bool
-badWaiting p root w = not (eqb (firstGiven (waitingRows (p .sizes) (p .t) (p .c) root w)) 0)
+badWaiting p root w = not (eqb (firstGiven (waitingRows p root w)) 0)
 
 -- BadCard: the clauses on the other parts are those of judge/specs/BadParts.antt
 abbrev pub badWith : Parts → List Record → Waiting → Bool
@@ -42,5 +42,5 @@ callRows bad p root w Min = busyRows bad w ++ (row 8 (eqb (p .c) 0) ∷ [])
 callRows bad p root w Withdraw = idleRows bad w
 callRows bad p root w (Begin request room) =
     busyRows bad w
-    ++ (requestRows (p .sizes) (p .t) (p .c) root request ++ (row 11 (ltb room (placesAsked (p .sizes .h) (jobOf p request))) ∷ []))
+    ++ (requestRows p root request ++ (row 11 (ltb room (placesAsked (p .sizes .h) (jobOf p request))) ∷ []))
 callRows bad p root w (Finish room) = idleRows bad w ++ shortRows p w room

@@ -11,7 +11,7 @@ use Rattle.request.specs.declared.Request.{Request}
 use Rattle.request.specs.declared.Waiting.the-variants.{Nothing}
 use Rattle.card.specs.Calls.{listOf}
 use Rattle.demands.specs.Queue.{Queue}
-use Rattle.demands.specs.World.{World, Asked, insert, extract, delete, Call, begin, finish, findMin, step}
+use Rattle.world.specs.World.{World, Asked, insert, extract, delete, Call, begin, finish, findMin, step}
 use Rattle.deals.specs.Trace.{storedBack, numberGiven, seen, askedFor}
 use Rattle.deals.specs.Sequences.{labelled, well}
 use Rattle.deals.proofs.DressLaws.{dressed}

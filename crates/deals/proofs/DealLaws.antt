@@ -8,7 +8,7 @@ use lib.Pow.{pow-pos}
 use Rattle.path.specs.declared.sizes.Sizes.{Sizes}
 use Rattle.path.specs.Sizes.{leavesOf}
 use Rattle.demands.specs.Queue.{Reference, emptyQueue}
-use Rattle.demands.specs.World.{World, Call}
+use Rattle.world.specs.World.{World, Call}
 use Rattle.deals.specs.Sequences.{requests, blanks, labels}
 use Rattle.deals.specs.Dealing.{leaving, stampsLeaving, labelsLeaving, deal, dealt}
 use Rattle.deals.proofs.LeavingLaws.{perm-all, perm-nodup, perm-length, paired-names, paired-all, made, stamps, made-nodup, leaving-perm}

@@ -10,7 +10,7 @@ use Rattle.path.specs.declared.sizes.Sizes.{Sizes}
 use Rattle.path.specs.Sizes.{inRange}
 use Rattle.request.specs.Tables.{waits}
 use Rattle.demands.specs.Queue.{emptyQueue}
-use Rattle.demands.specs.World.{World, freshWorld, insert, extract, delete, Call, begin, finish, withdraw, findMin, step}
+use Rattle.world.specs.World.{World, freshWorld, insert, extract, delete, Call, begin, finish, withdraw, findMin, step}
 use Rattle.demands.proofs.Demand2.{fresh-holds}
 use Rattle.deals.specs.Trace.{Seen, numberGiven, trace, untilOverflow}
 use Rattle.deals.specs.Sequences.{kindOf, labelled, clean, Valid}

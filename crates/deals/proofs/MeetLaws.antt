@@ -20,7 +20,7 @@ use Rattle.listing.proofs.ListingLaws.{path-places, path-words}
 use Rattle.card.specs.Tables.{partsOf}
 use Rattle.card.specs.Calls.{listOf}
 use Rattle.demands.specs.Queue.{Reference, Event, Queue, Operation, has, withoutThis, extractMin, next, nothing, delete as remove}
-use Rattle.demands.specs.World.{World, Asked, insert, extract, delete, Call, begin, finish, findMin, step}
+use Rattle.world.specs.World.{World, Asked, insert, extract, delete, Call, begin, finish, findMin, step}
 use Rattle.demands.specs.Refusals.{partsTold}
 use Rattle.demands.specs.Says.{refOf, eventOf, asks}
 use Rattle.deals.specs.Trace.{numberGiven}

@@ -18,8 +18,9 @@ use Rattle.request.specs.declared.Request.{Request}
 use Rattle.request.specs.declared.Request.the-variants.{Insert, Extract, Delete}
 use Rattle.answers.specs.declared.Answer.{Answer}
 use Rattle.answers.specs.declared.Answer.the-variants.{Started, Listed, Least, Withdrawn, Inserted, Extracted, Deleted, Refused}
-use Rattle.request.specs.Tables.{insertRows, deleteRows, requestRows}
-use Rattle.card.specs.Tables.{requestTable}
+use Rattle.parts.specs.declared.Parts.{Parts}
+use Rattle.request.specs.Tables.{insertRows, extractRows, deleteRows, requestRows}
+use Rattle.card.specs.Tables.{partsOf, requestTable}
 use Rattle.card.proofs.BeginLaws.{insertable, deletable}
 use Rattle.demands.specs.Queue.{Reply, referred, told, wasFound, silent}
 use Rattle.demands.specs.Says.{says}
@@ -27,9 +28,15 @@ use Rattle.deals.specs.Sequences.{well}
 
 -- ---- another card of these sizes and counts
 module _ (k m : Card) (sizes : m .sizes ≡ k .sizes) (time : m .t ≡ k .t) (count : m .c ≡ k .c) where
-  -- its table is the one of the first with its own root
-  as-first : (w : Request) → firstGiven (requestTable m w) ≡ firstGiven (requestRows (k .sizes) (k .t) (k .c) (m .root) w)
-  as-first w = λ i. firstGiven (requestRows (sizes i) (time i) (count i) (m .root) w)
+  abbrev partsAt : 𝕀 → Parts
+  partsAt i = record { sizes = sizes i; t = time i; c = count i; least = m .least }
+
+  -- its table is the one of the first with its own root: no row asks for the least record
+  as-first : (w : Request) → firstGiven (requestTable m w) ≡ firstGiven (requestRows (partsOf k) (m .root) w)
+  unfolding requestRows insertRows extractRows deleteRows
+  as-first (Insert key value label first second) = λ i. firstGiven (insertRows (partsAt i) (m .root) key label first second)
+  as-first Extract = λ i. firstGiven (extractRows (partsAt i))
+  as-first (Delete label stamp) = λ i. firstGiven (deleteRows (partsAt i) label stamp)
 
   -- an Insert with another key and label, both proper, is taken or overflows
   pub insert-again :

@@ -23,8 +23,8 @@ use Rattle.answers.specs.Answers.{numberOf}
 use Rattle.card.proofs.GoodLaws.{good}
 use Rattle.served.proofs.CallLaws.{ready-card}
 use Rattle.demands.specs.Queue.{Queue, emptyQueue, next}
-use Rattle.demands.specs.World.{World, freshWorld, Call, step}
-use Rattle.demands.specs.Says.{pendingAfter, requestOf}
+use Rattle.world.specs.World.{World, freshWorld, Call, step}
+use Rattle.demands.specs.Says.{pendingAfter, operationOf}
 use Rattle.demands.specs.Refusals.{refusalOf}
 use Rattle.demands.specs.Demand2.{Refuses}
 use Rattle.demands.proofs.RefusalsLaws.{refusal-is}
@@ -86,7 +86,7 @@ calm s roomy (c ∷ cs) u p q h =
     rw (ne-eqb (numberGiven (step u c)) 10 (step-ten s u p q h roomy c))
     (ap suc (⊎-elim
     (λ (n : Refuses s u p q c (step u c)). calm s roomy cs (step u c .world) p q (subst (λ (v : World). Holds s v p q) (sym (n .unchanged)) h))
-    (λ (a : Goes s u p q c (step u c)). calm s roomy cs (step u c .world) (pendingAfter p c) (next q (requestOf p c)) (a .holds))
+    (λ (a : Goes s u p q c (step u c)). calm s roomy cs (step u c .world) (pendingAfter p c) (next q (operationOf p c)) (a .holds))
     (plays s u p q h c .card)))
 
 pub never-overflows : (s : Sizes) → inRange s ≡ true → leavesOf (s .h) ≤ s .r → (cs : List Call) → NeverOverflows s cs

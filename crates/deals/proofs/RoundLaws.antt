@@ -36,7 +36,7 @@ use Rattle.card.proofs.AnswerLaws.{number-given}
 use Rattle.card.proofs.BeginLaws.{accepted, request-refused, room-enough}
 use Rattle.served.proofs.CallLaws.{ready-card}
 use Rattle.demands.specs.Queue.{Event, Queue, leastEvent, next, reply}
-use Rattle.demands.specs.World.{World, Asked, insert, extract, delete, Call, begin, finish, findMin, Outcome, held, step}
+use Rattle.world.specs.World.{World, Asked, Call, begin, finish, findMin, Outcome, held, afterBegin, step}
 use Rattle.demands.specs.Says.{eventOf, asks, says}
 use Rattle.demands.specs.Refusals.{partsTold}
 use Rattle.demands.proofs.AnswerLaws.{least-told}
@@ -66,7 +66,7 @@ module _ (u : World) {w : Request} (asked : Asked w) (places : List ℕ) where
   n = firstGiven (beginTable (u .card) w (length places))
 
   begin-number : numberGiven (step u (begin asked places)) ≡ n
-  unfolding step
+  unfolding step afterBegin
   begin-number = number-given (u .card) n (begunDone (u .card) w) refl
 
   module _ (e : numberGiven (step u (begin asked places)) ≡ 0) where
@@ -75,7 +75,7 @@ module _ (u : World) {w : Request} (asked : Asked w) (places : List ℕ) where
 
     -- the list that is then held
     begin-held : held (step u (begin asked places) .world) ≡ listOf (u .card) w
-    unfolding step
+    unfolding step afterBegin
     begin-held = rw passes (listed-laid (listOf (u .card) w) places)
 
     begin-seen : seen u (begin asked places) ≡ askedFor (listOf (u .card) w)
@@ -83,7 +83,7 @@ module _ (u : World) {w : Request} (asked : Asked w) (places : List ℕ) where
     begin-seen = rw e (ap askedFor begin-held)
 
     begin-well : well (step u (begin asked places) .answer) ≡ true
-    unfolding step orRefused
+    unfolding step afterBegin orRefused
     begin-well = rw passes
 
 -- ---- a finish

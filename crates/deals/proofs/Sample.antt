@@ -42,7 +42,7 @@ use Rattle.card.specs.Calls.{callTable, listOf}
 use Rattle.card.specs.Finish.{leftBy, damagedBy, finishedBy}
 use Rattle.request.specs.Tables.{insertRows, extractRows, deleteRows, requestRows, waits}
 use Rattle.demands.specs.Queue.{Queue, leastEvent, has, takenOut, next}
-use Rattle.demands.specs.World.{freshWorld, Asked, insert, extract, delete, Call, begin, finish, findMin, Outcome, step, outcomes}
+use Rattle.world.specs.World.{freshWorld, Asked, insert, extract, delete, Call, begin, finish, findMin, Outcome, afterBegin, afterFinish, step, outcomes}
 use Rattle.demands.specs.Says.{asks as wants}
 use Rattle.deals.specs.Trace.{Seen, seen, trace, untilOverflow}
 use Rattle.deals.specs.Sequences.{leaf, labelled, labels, clean, unlabelled, Sound, Fair, Valid, none, look, request}
@@ -189,7 +189,7 @@ unfolding every reals bears stampTwice before smallerBy smallestBy same isDummy 
     pathWords pathBuckets leastAfter seated sound pathSound siblingsSound kidsShown leastsTrue pathDamaged
     pairDamaged removal insertion removalDamaged insertionDamaged anyOutside stored orRefused badCard listOf
     callTable callRows leftBy damagedBy finishedBy insertRows extractRows deleteRows
-    requestRows waits step outcomes flatMap seen trace untilOverflow deal paired leaving leastEvent has takenOut labels labelled clean
+    requestRows waits afterBegin afterFinish step outcomes flatMap seen trace untilOverflow deal paired leaving leastEvent has takenOut labels labelled clean
 worked =
     let key : (n : ℕ) → n ≤ 7 → n < dummyKey = λ n h. omega arith in (
       record {

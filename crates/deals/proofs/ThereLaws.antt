@@ -12,8 +12,8 @@ use Rattle.request.specs.declared.Request.{Request}
 use Rattle.request.specs.declared.Request.the-variants.{Extract}
 use Rattle.card.proofs.BeginLaws.{insertable, extractable}
 use Rattle.demands.specs.Queue.{Event, Queue, Operation, insert, findMin, extractMin, delete, nothing, next}
-use Rattle.demands.specs.World.{World, Asked, Call, begin, finish, withdraw, findMin as looksAt}
-use Rattle.demands.specs.World.{insert as puts, extract as extracts, delete as deletes}
+use Rattle.world.specs.World.{World, Asked, Call, begin, finish, withdraw, findMin as looksAt}
+use Rattle.world.specs.World.{insert as puts, extract as extracts, delete as deletes}
 use Rattle.demands.specs.Says.{eventOf, asks}
 use Rattle.demands.proofs.SortedLaws.{has-live}
 use Rattle.deals.specs.Sequences.{requests, blanks, unlabelled, labels, labelled, well, Fair}

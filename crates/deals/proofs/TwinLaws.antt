@@ -12,7 +12,7 @@ use Rattle.path.specs.declared.sizes.Sizes.{Sizes}
 use Rattle.request.specs.declared.Request.{Request}
 use Rattle.request.specs.declared.Request.the-variants.{Insert, Extract, Delete}
 use Rattle.demands.specs.Queue.{Queue, next}
-use Rattle.demands.specs.World.{World, Asked, insert, extract, delete, Call, begin, finish, withdraw, findMin, step}
+use Rattle.world.specs.World.{World, Asked, insert, extract, delete, Call, begin, finish, withdraw, findMin, step}
 use Rattle.demands.specs.Says.{asks}
 use Rattle.deals.specs.Trace.{numberGiven}
 use Rattle.deals.specs.Sequences.{Kind, inserts, extracts, deletes, finishes, withdraws, looks, kindAsked, kindOf, well, clean, unlabelled, Fair, Valid, none, look, request}

@@ -6,7 +6,7 @@ use mathlib.Core.List.{List, [], _∷_, _++_, map}
 use mathlib.Core.Option.{Option, none, some}
 use lib.Dec.{eqb}
 use Rattle.demands.specs.Queue.{Reference, Event, Queue, Operation, insert, findMin, extractMin, delete, nothing, emptyQueue, leastEvent, next}
-use Rattle.demands.specs.World.{Call}
+use Rattle.world.specs.World.{Call}
 use Rattle.deals.specs.Sequences.{requests, blanks, labelled}
 
 -- the event that a request takes out

@@ -9,7 +9,7 @@ use lib.ListN.{length, take}
 use Rattle.path.specs.declared.sizes.Sizes.{Sizes}
 use Rattle.path.specs.Sizes.{inRange, leavesOf}
 use Rattle.demands.specs.Queue.{emptyQueue}
-use Rattle.demands.specs.World.{freshWorld, Call}
+use Rattle.world.specs.World.{freshWorld, Call}
 use Rattle.deals.specs.Trace.{Seen, trace, untilOverflow}
 use Rattle.deals.specs.Sequences.{kindOf, labelled, labels, clean, Valid}
 use Rattle.deals.specs.Dealing.{dealt}

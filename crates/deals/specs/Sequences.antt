@@ -15,7 +15,7 @@ use Rattle.request.specs.Tables.{waits}
 use Rattle.request.specs.Job.{jobOf}
 use Rattle.listing.specs.Listing.{placesAsked, wordsAsked}
 use Rattle.demands.specs.Queue.{Queue, Operation, nothing, extractMin, has, next, insert as put, delete as remove, findMin as findLeast}
-use Rattle.demands.specs.World.{World, Asked, insert, extract, delete, Call, begin, finish, withdraw, findMin, step}
+use Rattle.world.specs.World.{World, Asked, insert, extract, delete, Call, begin, finish, withdraw, findMin, step}
 use Rattle.demands.specs.Says.{asks}
 
 -- ---- kinds
@@ -86,7 +86,7 @@ unfoldable pub labels : List Call → List ℕ
 labels [] = []
 labels (c ∷ cs) = labelIn (wanted c) ++ labels cs
 
--- ---- the first sequence: "none refused, withdrawn or Absent", and none left waiting
+-- ---- the first sequence: none refused, withdrawn or Absent, and none left waiting
 abbrev pub well : Answer → Bool
 well Started = true
 well (Listed whole least) = true

@@ -8,7 +8,7 @@ use Rattle.record.specs.declared.Bucket.{Bucket}
 use Rattle.lists.specs.BucketList.{BucketList, noBuckets}
 use Rattle.answers.specs.Answers.{numberOf}
 use Rattle.refusal.specs.Refusal.{afterwards}
-use Rattle.demands.specs.World.{World, Call, begin, finish, withdraw, findMin, Outcome, held, step}
+use Rattle.world.specs.World.{World, Call, begin, finish, withdraw, findMin, Outcome, held, step}
 
 -- Of one call: the list that is asked for, "how many are whole and how many are least-record only", and the buckets that the rack
 -- "stores .. back, in list order". All are bucket numbers, in order.

@@ -15,7 +15,6 @@ use Rattle.record.proofs.ManyLaws.{every-each}
 use Rattle.clearing.specs.Removal.{named, found}
 use Rattle.clearing.proofs.RemovalLaws.{member-found}
 use Rattle.parts.specs.Parts.{ruleOf}
-use Rattle.settle.specs.Left.{Left}
 use Rattle.copies.specs.Copy.{fetched}
 use Rattle.card.specs.declared.Card.{Card}
 use Rattle.request.specs.declared.Request.{Request}
@@ -25,7 +24,6 @@ use Rattle.refusal.specs.Refusal.{firstGiven}
 use Rattle.card.specs.Tables.{partsOf, requestTable}
 use Rattle.card.specs.Calls.{listOf}
 use Rattle.card.specs.Finish.{leftBy, finishedBy}
-use Rattle.answers.specs.Answers.{numberOf}
 use Rattle.card.proofs.BeginLaws.{extractable}
 use Rattle.good.specs.Live.{without, Ascending}
 use Rattle.good.proofs.PickLaws.{is-named}
@@ -48,13 +46,6 @@ least-of : (rule : Rule) (live : List Record) → ((y : Record) → List·Memᴰ
     → Ascending live → (m : Record) → List·Memᴰ m live → leastEvent (map eventOf live) ≡ some (eventOf (smallest rule live))
 least-of rule [] k a m i = absurd (List·Memᴰ·not-nil i)
 least-of rule (x ∷ xs) k a m i = least-smallest rule x xs k a
-
--- a request is finished with no refusal
-pub finished-number : (k : Card) (q : Request) (l : Left) → numberOf (finishedBy k q l .answer) ≡ 0
-unfolding finishedBy
-finished-number k (Insert key value label first second) l = refl
-finished-number k Extract l = refl
-finished-number k (Delete label stamp) l = refl
 
 module _ (k : Card) (tree : List ℕ) (live : List Record) (r : Ready k tree live) where
   known : (y : Record) → List·Memᴰ y live → isProper (ruleOf (partsOf k)) y ≡ true

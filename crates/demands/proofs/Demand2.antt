@@ -3,21 +3,20 @@ use mathlib.Core.Bool.{true}
 use mathlib.Core.List.{List, []}
 use mathlib.Core.Logic.{⊎-elim}
 use mathlib.Core.Path.{_≡_, refl, sym, subst}
-use lib.ListN.{length}
 use Rattle.path.specs.declared.sizes.Sizes.{Sizes}
 use Rattle.path.specs.Sizes.{inRange}
-use Rattle.lists.specs.BucketList.{laid}
+use Rattle.lists.specs.BucketList.{laid, counts}
 use Rattle.card.specs.declared.Card.{Card}
 use Rattle.request.specs.declared.Waiting.{Waiting}
 use Rattle.request.specs.declared.Waiting.the-variants.{Nothing}
 use Rattle.served.proofs.CallLaws.{start-ready}
 use Rattle.demands.specs.Queue.{Queue, emptyQueue, next}
-use Rattle.demands.specs.World.{World, freshWorld, Call, begin, finish, withdraw, findMin, Outcome, step, outcomes}
-use Rattle.demands.specs.Says.{pendingAfter, requestOf}
-use Rattle.demands.specs.Promised.{Carried, ended as none, called}
+use Rattle.world.specs.World.{World, holdingList, freshWorld, Call, begin, finish, withdraw, findMin, Outcome, step, outcomes}
+use Rattle.demands.specs.Says.{pendingAfter, operationOf}
+use Rattle.world.specs.Promised.{Carried, ended as none, called}
 use Rattle.demands.specs.Demand2.{Refuses, Run, ended, refused, answered, Demand2}
 use Rattle.demands.proofs.AnswerLaws.{queueOf}
-use Rattle.demands.proofs.PromisedLaws.{promised-step, outcomes-carried}
+use Rattle.world.proofs.PromisedLaws.{promised-step, outcomes-carried}
 use Rattle.demands.proofs.StepLaws.{heldFor, Holds, Goes, Plays, plays-begin, plays-withdraw, plays-min}
 use Rattle.demands.proofs.FinishLaws.{plays-finish}
 
@@ -28,21 +27,13 @@ module _ (s : Sizes) (u : World) (p : Waiting) (q : Queue) (h : Holds s u p q) w
 
   -- world and queue as the laws of one call write them
   abbrev written : World
-  written =
-      record {
-        card = k;
-        tree = u .tree;
-        list = laid (heldFor k (k .waiting)) (h .places);
-        whole = length (heldFor k (k .waiting) .whole);
-        least = length (heldFor k (k .waiting) .least);
-      }
+  written = holdingList k (u .tree) (laid (heldFor k (k .waiting)) (h .places)) (counts (heldFor k (k .waiting)))
 
   same-world : written ≡ u
   same-world =
       let list = sym (h .list) in
-      let whole = sym (h .whole) in
-      let least = sym (h .least) in
-      λ i. record { card = k; tree = u .tree; list = list i; whole = whole i; least = least i }
+      let many = sym (h .counts) in
+      λ i. holdingList k (u .tree) (list i) (many i)
 
   abbrev queue : Queue
   queue = queueOf (h .stands .live) (k .t)
@@ -74,8 +65,7 @@ fresh-holds s ok =
       word = tt;
       places = [];
       list = refl;
-      whole = refl;
-      least = refl;
+      counts = refl;
     }
 
 -- ---- call after call
@@ -87,7 +77,7 @@ follow s {u} (called {c} {o} {cs} {os} promised rest) p q h =
     ⊎-elim
     (λ (n : Refuses s u p q c o).
     refused (h .stands) (one .rack) n (follow s rest p q (subst (λ (v : World). Holds s v p q) (sym (n .unchanged)) h)))
-    (λ (a : Goes s u p q c o). answered (h .stands) (one .rack) (a .answers) (follow s rest (pendingAfter p c) (next q (requestOf p c)) (a .holds)))
+    (λ (a : Goes s u p q c o). answered (h .stands) (one .rack) (a .answers) (follow s rest (pendingAfter p c) (next q (operationOf p c)) (a .holds)))
     (one .card)
 
 pub demand2 : Demand2

@@ -7,7 +7,6 @@ pub mod RefusalsLaws
 pub mod StepLaws
 pub mod FinishLaws
 pub mod Demand2
-pub mod PromisedLaws
 pub mod Sample
 pub mod RoundLaws
 pub mod StandsLaws

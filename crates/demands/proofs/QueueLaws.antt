@@ -1,6 +1,6 @@
 -- The plain queue and the live records: the first of the least events is the smallest record, since stamps rise in the order of
 -- insertion, and what a reference names in the queue is what label and stamp name among the records. Assumes nothing.
-use Prim.Native.Nat.{ℕ, suc, _<_}
+use Prim.Native.Nat.{suc, _<_}
 use mathlib.Core.Bool.{Bool, true, false, cond}
 use mathlib.Core.List.{List, [], _∷_, map, List·Memᴰ, List·Memᴰ·head, List·Memᴰ·tail}
 use mathlib.Core.Logic.{_⊎_, inl, inr, ⊎-elim}

@@ -18,12 +18,11 @@ use Rattle.request.specs.declared.Waiting.the-variants.{Nothing, For}
 use Rattle.request.proofs.RequestLaws.{request-rows}
 use Rattle.checks.specs.Checks.{shortRows, callRows}
 use Rattle.card.specs.declared.Card.{Card}
-use Rattle.card.specs.Tables.{partsOf}
 use Rattle.card.specs.Calls.{callTable}
 use Rattle.served.specs.Ready.{Ready}
 use Rattle.served.proofs.CallLaws.{ready-card}
 use Rattle.demands.specs.Queue.{Queue}
-use Rattle.demands.specs.World.{Call, begin, finish, withdraw, findMin}
+use Rattle.world.specs.World.{Call, begin, finish, withdraw, findMin}
 use Rattle.demands.specs.Refusals.{partsTold, callOf, refusals, refusalOf}
 use Rattle.demands.proofs.AnswerLaws.{queueOf, parts-told}
 
@@ -44,7 +43,7 @@ module _ (s : Sizes) (root : List Record) (p : Waiting) (q : Queue) where
     refusal-rows : (c : Call) → Rows P (refusals s root p q c)
     unfolding callRows
     refusal-rows (begin {r} asked places) =
-        let own = request-rows s (q .taken) (length (q .events)) root P (λ n l m. low n (omega arith) m) over r in
+        let own = request-rows (partsTold s q) root P (λ n l m. low n (omega arith) m) over r in
         past 13 refl (next 2 two (rows-append own (next 11 short none)))
     refusal-rows (finish words) = past 13 refl (next 3 three (short-rows p (length words)))
     refusal-rows withdraw = past 13 refl (next 3 three none)

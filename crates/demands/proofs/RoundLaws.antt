@@ -16,7 +16,7 @@ use Rattle.request.specs.declared.Waiting.{Waiting}
 use Rattle.request.specs.declared.Waiting.the-variants.{Nothing, For}
 use Rattle.answers.specs.Answers.{numberOf}
 use Rattle.demands.specs.Queue.{Reference, Event, Queue, Operation, Reply, emptyQueue, noDearer, told, extractMin, reply, next}
-use Rattle.demands.specs.World.{World, freshWorld, Call, begin, finish, Outcome, step}
+use Rattle.world.specs.World.{World, freshWorld, Call, begin, finish, Outcome, step}
 use Rattle.demands.specs.Says.{asks, says}
 use Rattle.demands.specs.Refusals.{refusalOf}
 use Rattle.demands.specs.Demand2.{Refuses}
@@ -40,7 +40,7 @@ allowed {s} {u} {p} {q} {c} {o} play e =
 
 pub rounds-answered : {s : Sizes} {u : World} {js : List Round} → Passes u js → (q : Queue) → Holds s u Nothing q
     → answers u js ≡ replies q (map wanted js)
-unfolding answers replies
+unfolding answers replies step
 rounds-answered none q h = refl
 rounds-answered {s} {u} (more {j = round {r = w} asked lent words} {js = js} b f rest) q h =
     let begun = passed (plays s u Nothing q h (begin asked lent)) b in

@@ -8,7 +8,7 @@ use native.Mathlib.Omega.{arith}
 use lib.ListN.{replicate}
 use Rattle.record.specs.Standing.{dummyKey, same, isDummy, known, isProper, mayStand}
 use Rattle.request.specs.declared.Request.{Request}
-use Rattle.demands.specs.World.{Asked, freshWorld, insert, extract, delete, Call, begin, finish, withdraw, findMin, Outcome, step, outcomes}
+use Rattle.world.specs.World.{Asked, freshWorld, insert, extract, delete, Call, begin, finish, withdraw, findMin, Outcome, afterBegin, afterFinish, step, outcomes}
 use Rattle.record.specs.Many.{every, reals, bears, stampTwice}
 use Rattle.record.specs.Order.{before, smallerBy, smallestBy}
 use Rattle.record.specs.Words.{records, wordsOf}
@@ -104,5 +104,5 @@ unfolding every reals bears stampTwice before smallerBy smallestBy same isDummy 
     pathWords pathBuckets leastAfter seated sound pathSound siblingsSound kidsShown leastsTrue pathDamaged
     pairDamaged removal insertion removalDamaged insertionDamaged anyOutside stored orRefused badCard listOf
     callTable callRows leftBy damagedBy finishedBy insertRows extractRows deleteRows
-    requestRows waits step outcomes flatMap
+    requestRows waits afterBegin afterFinish step outcomes flatMap
 sample = (refl, refl)

@@ -19,7 +19,7 @@ use Rattle.good.proofs.FitLaws.{at-place}
 use Rattle.good.proofs.LowLaws.{live-real}
 use Rattle.good.proofs.SlotLaws.{Holds, some-slot, one-slot}
 use Rattle.demands.specs.Queue.{Event, Queue}
-use Rattle.demands.specs.World.{World}
+use Rattle.world.specs.World.{World}
 use Rattle.demands.specs.Says.{eventOf}
 use Rattle.demands.specs.Demand2.{Stands}
 use Rattle.demands.specs.Plainly.{buckets, Slot, inSlot, Plainly}

@@ -1,6 +1,6 @@
 -- One call on a world that stands: refused, with all as it was, or answered as the queue, and the world stands again.
 -- Assumes nothing.
-use Prim.Native.Nat.{ℕ, zero, suc, _≤_}
+use Prim.Native.Nat.{ℕ, _≤_}
 use mathlib.Core.List.{List, []}
 use mathlib.Core.Logic.{_⊎_, inl, inr}
 use mathlib.Core.Path.{_≡_, refl, sym, ap, _∙_, subst}
@@ -11,7 +11,7 @@ use lib.ListN.{length}
 use borrow.Author.Tests.{eqb-true, eqb-false}
 use Rattle.record.specs.declared.Record.{Record}
 use Rattle.path.specs.declared.sizes.Sizes.{Sizes}
-use Rattle.lists.specs.BucketList.{BucketList, noBuckets, laid}
+use Rattle.lists.specs.BucketList.{BucketList, noBuckets, laid, counts}
 use Rattle.refusal.specs.Refusal.{firstGiven}
 use Rattle.refusal.proofs.RefusalLaws.{none-given}
 use Rattle.card.specs.declared.Card.{Card}
@@ -20,20 +20,19 @@ use Rattle.request.specs.declared.Waiting.the-variants.{Nothing, For}
 use Rattle.request.specs.declared.Request.{Request}
 use Rattle.answers.specs.declared.Answer.{Answer}
 use Rattle.answers.specs.declared.Answer.the-variants.{Refused}
-use Rattle.card.specs.declared.Done.{Done}
-use Rattle.card.specs.Answers.{orRefused}
 use Rattle.request.specs.Tables.{waits}
 use Rattle.card.specs.BadCard.{badCard}
 use Rattle.checks.specs.Checks.{callRows}
-use Rattle.card.specs.Calls.{callTable, listOf, beginTable, begun, minTable, foundMin, withdrawTable, withdrawn, withWaiting}
+use Rattle.card.specs.Calls.{callTable, listOf, beginTable, minTable, foundMin, withdrawTable, withdrawn, withWaiting}
 use Rattle.card.proofs.BeginLaws.{accepted}
 use Rattle.card.proofs.CallLaws.{same-list}
 use Rattle.served.specs.Ready.{Ready}
 use Rattle.served.proofs.CallLaws.{begin-ready, withdraw-ready}
 use Rattle.served.proofs.FinishedLaws.{WordKey}
 use Rattle.demands.specs.Queue.{Queue, next, told}
-use Rattle.demands.specs.World.{World, Asked, insert, extract, delete, Call, begin, withdraw, findMin, Outcome, alone, step}
-use Rattle.demands.specs.Says.{pendingAfter, requestOf}
+use Rattle.world.specs.World.{World, holdingList, Asked, insert, extract, delete, Call, begin, withdraw, findMin, Outcome, step}
+use Rattle.world.proofs.WorldLaws.{quiet, alone-done, alone-refused, begin-done, begin-refused}
+use Rattle.demands.specs.Says.{pendingAfter, operationOf}
 use Rattle.demands.specs.Refusals.{refusalOf}
 use Rattle.demands.specs.Demand2.{Stands, Refuses, Answers, RackPasses}
 use Rattle.demands.proofs.AnswerLaws.{queueOf, least-told}
@@ -54,35 +53,19 @@ pub record Holds (s : Sizes) (u : World) (p : Waiting) (q : Queue) : Type 0 wher
   pub word : Worded (u .card .waiting)
   pub places : List ℕ
   pub list : u .list ≡ laid (heldFor (u .card) (u .card .waiting)) places
-  pub whole : u .whole ≡ length (heldFor (u .card) (u .card .waiting) .whole)
-  pub least : u .least ≡ length (heldFor (u .card) (u .card .waiting) .least)
+  pub counts : u .counts ≡ counts (heldFor (u .card) (u .card .waiting))
 
 module _ (s : Sizes) (u : World) (p : Waiting) (q : Queue) (c : Call) (o : Outcome) where
   -- answered, and the world holds again
   pub record Goes : Type 0 where
     pub answers : Answers s u p q c o
-    pub holds : Holds s (o .world) (pendingAfter p c) (next q (requestOf p c))
+    pub holds : Holds s (o .world) (pendingAfter p c) (next q (operationOf p c))
 
   pub record Plays : Type 0 where
     pub rack : RackPasses s p q c o
     pub card : Refuses s u p q c o ⊎ Goes
 
 -- ---- a call of the card alone
-abbrev quiet : World → Answer → Outcome
-quiet u a = record { world = u; answer = a; fetch = 0; store = 0 }
-
-alone-refused : (u : World) (n : ℕ) (done : Done) (list : List ℕ) (whole least : ℕ) → (n ≡ 0 → ⊥)
-    → quiet u (Refused n) ≡ alone u n done list whole least
-unfolding orRefused
-alone-refused u zero done list whole least h = absurd (h refl)
-alone-refused u (suc n) done list whole least h = refl
-
-alone-done : (u : World) (n : ℕ) (done : Done) (list : List ℕ) (whole least : ℕ) → n ≡ 0
-    → quiet (record { card = done .card; tree = u .tree; list = list; whole = whole; least = least }) (done .answer)
-    ≡ alone u n done list whole least
-unfolding orRefused
-alone-done u n done list whole least h = rw h
-
 quiet-rack : (s : Sizes) (p : Waiting) (q : Queue) (v : World) (c : Call) (a : Answer) → RackPasses s p q c (quiet v a)
 quiet-rack s p q v c a = record { fetch = inl refl; store = refl }
 
@@ -117,7 +100,7 @@ module _ (k : Card) (tree places : List ℕ) (live : List Record) (r : Ready k t
   l = heldFor k (k .waiting)
 
   abbrev u : World
-  u = record { card = k; tree = tree; list = laid l places; whole = length (l .whole); least = length (l .least) }
+  u = holdingList k tree (laid l places) (counts l)
 
   abbrev q : Queue
   q = queueOf live (k .t)
@@ -136,8 +119,7 @@ module _ (k : Card) (tree places : List ℕ) (live : List Record) (r : Ready k t
         word = word;
         places = places;
         list = refl;
-        whole = refl;
-        least = refl;
+        counts = refl;
       }
 
   -- ---- begin
@@ -145,18 +127,16 @@ module _ (k : Card) (tree places : List ℕ) (live : List Record) (r : Ready k t
   unfolding step
   plays-begin {w} asked lent =
       let n = firstGiven (beginTable k w (length lent)) in
-      let whole = length (listOf k w .whole) in
-      let least = length (listOf k w .least) in
       elim (dichotomy (eqb n 0)) [
         | inl f ↦
             subst (Played (begin asked lent))
-            (alone-refused u n (begun k w) (laid (listOf k w) lent) whole least (eqb-false n 0 f))
+            (begin-refused u w lent (eqb-false n 0 f))
             (refusedWith (begin asked lent) n (eqb-false n 0 f) (call-number k tree live r (begin asked lent)))
         | inr t ↦
             let a = accepted k w (length lent) (eqb-true n 0 t) in
             let same = sym (same-list (withWaiting k (For w)) k w refl refl) in
             subst (Played (begin asked lent))
-            (alone-done u n (begun k w) (laid (listOf k w) lent) whole least (eqb-true n 0 t))
+            (begin-done u w lent (eqb-true n 0 t))
             (record {
               rack = quiet-rack (k .sizes) (k .waiting) q _ (begin asked lent) _;
               card = inr (record {
@@ -166,8 +146,7 @@ module _ (k : Card) (tree places : List ℕ) (live : List Record) (r : Ready k t
                   word = asked-word asked;
                   places = lent;
                   list = ap (λ (m : BucketList). laid m lent) same;
-                  whole = ap (λ (m : BucketList). length (m .whole)) same;
-                  least = ap (λ (m : BucketList). length (m .least)) same;
+                  counts = ap counts same;
                 };
               });
             })
@@ -180,10 +159,10 @@ module _ (k : Card) (tree places : List ℕ) (live : List Record) (r : Ready k t
       let n = firstGiven (withdrawTable k) in
       elim (dichotomy (eqb n 0)) [
         | inl f ↦
-            subst (Played withdraw) (alone-refused u n (withdrawn k) [] 0 0 (eqb-false n 0 f))
+            subst (Played withdraw) (alone-refused u n (withdrawn k) [] (counts noBuckets) (eqb-false n 0 f))
             (refusedWith withdraw n (eqb-false n 0 f) (call-number k tree live r withdraw))
         | inr t ↦
-            subst (Played withdraw) (alone-done u n (withdrawn k) [] 0 0 (eqb-true n 0 t))
+            subst (Played withdraw) (alone-done u n (withdrawn k) [] (counts noBuckets) (eqb-true n 0 t))
             (record {
               rack = quiet-rack (k .sizes) (k .waiting) q _ withdraw _;
               card = inr (record {
@@ -193,8 +172,7 @@ module _ (k : Card) (tree places : List ℕ) (live : List Record) (r : Ready k t
                   word = tt;
                   places = [];
                   list = refl;
-                  whole = refl;
-                  least = refl;
+                  counts = refl;
                 };
               });
             })
@@ -215,10 +193,10 @@ module _ (k : Card) (tree places : List ℕ) (live : List Record) (r : Ready k t
       let n = firstGiven (minTable k) in
       elim (dichotomy (eqb n 0)) [
         | inl f ↦
-            subst (Played findMin) (alone-refused u n (foundMin k) (u .list) (u .whole) (u .least) (eqb-false n 0 f))
+            subst (Played findMin) (alone-refused u n (foundMin k) (u .list) (u .counts) (eqb-false n 0 f))
             (refusedWith findMin n (eqb-false n 0 f) (call-number k tree live r findMin))
         | inr t ↦
-            subst (Played findMin) (alone-done u n (foundMin k) (u .list) (u .whole) (u .least) (eqb-true n 0 t))
+            subst (Played findMin) (alone-done u n (foundMin k) (u .list) (u .counts) (eqb-true n 0 t))
             (record {
               rack = quiet-rack (k .sizes) (k .waiting) q _ findMin _;
               card = inr (record {

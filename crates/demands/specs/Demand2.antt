@@ -19,10 +19,10 @@ use Rattle.answers.specs.declared.Answer.the-variants.{Refused}
 use Rattle.answers.specs.Answers.{numberOf}
 use Rattle.served.specs.Ready.{Ready}
 use Rattle.demands.specs.Queue.{Queue, emptyQueue, reply, next}
-use Rattle.demands.specs.World.{World, freshWorld, Call, begin, finish, withdraw, findMin, Outcome}
-use Rattle.demands.specs.Says.{eventOf, pendingAfter, requestOf, says}
+use Rattle.world.specs.World.{World, freshWorld, Call, begin, finish, withdraw, findMin, Outcome}
+use Rattle.demands.specs.Says.{eventOf, pendingAfter, operationOf, says}
 use Rattle.demands.specs.Refusals.{partsTold, refusalOf}
-use Rattle.demands.specs.Promised.{Carried}
+use Rattle.world.specs.Promised.{Carried}
 
 -- ---- before and after every call
 -- The card has the sizes that it was started with, and the pending request waits on it. Card and tree hold a good heap (`Ready`,
@@ -52,7 +52,7 @@ module _ (s : Sizes) (u : World) (p : Waiting) (q : Queue) (c : Call) (o : Outco
   pub record Answers : Type 0 where
     pub passes : numberOf (o .answer) ≡ 0
     pub why : refusalOf s (u .card .root) p q c ≡ 0
-    pub same : says (o .answer) ≡ reply q (requestOf p c)
+    pub same : says (o .answer) ≡ reply q (operationOf p c)
 
 -- the words lent to a finish are fewer than the pending request needs
 abbrev pub fewFor : Sizes → Waiting → Queue → ℕ → Type 0
@@ -76,12 +76,12 @@ pub data Run (s : Sizes) : World → Waiting → Queue → List Call → List Ou
   refused : {u : World} {p : Waiting} {q : Queue} {c : Call} {o : Outcome} {cs : List Call} {os : List Outcome} → Stands s u p q
       → RackPasses s p q c o → Refuses s u p q c o → Run s (o .world) p q cs os → Run s u p q (c ∷ cs) (o ∷ os)
   answered : {u : World} {p : Waiting} {q : Queue} {c : Call} {o : Outcome} {cs : List Call} {os : List Outcome} → Stands s u p q
-      → RackPasses s p q c o → Answers s u p q c o → Run s (o .world) (pendingAfter p c) (next q (requestOf p c)) cs os
+      → RackPasses s p q c o → Answers s u p q c o → Run s (o .world) (pendingAfter p c) (next q (operationOf p c)) cs os
       → Run s u p q (c ∷ cs) (o ∷ os)
 
 -- The premise that the rack is honest, for "An older true copy of the tree can't be told apart": what comes of each call is what the
--- contracts promise on the world that the call before it left (`Carried`, Promised.antt). So each fetch reads the tree that the last
--- store left, and "this store is done before the next begin". The steps of World.antt keep it (`outcomes-carried`).
+-- contracts promise on the world that the call before it left (`Carried`, world/specs/Promised.antt). So each fetch reads the tree that the last
+-- store left, and "this store is done before the next begin". The steps of `world` keep it (`outcomes-carried`).
 abbrev pub HonestRack : Sizes → List Call → List Outcome → Type 0
 HonestRack s cs os = Carried (freshWorld s) cs os
 

@@ -14,7 +14,7 @@ use Rattle.tree.specs.Tree.{Tree, InTree, treeOf}
 use Rattle.tree.specs.Path.{OnPath}
 use Rattle.good.specs.Good.{LeastTrue}
 use Rattle.demands.specs.Queue.{Event, Queue}
-use Rattle.demands.specs.World.{World}
+use Rattle.world.specs.World.{World}
 use Rattle.demands.specs.Says.{eventOf}
 
 module _ (u : World) where

@@ -16,7 +16,7 @@ use Rattle.checks.specs.declared.Call.{Call as CardCall}
 use Rattle.checks.specs.declared.Call.the-variants.{Min, Withdraw, Begin, Finish}
 use Rattle.checks.specs.Checks.{callRows}
 use Rattle.demands.specs.Queue.{Event, Queue, leastEvent}
-use Rattle.demands.specs.World.{Call, begin, finish, withdraw, findMin}
+use Rattle.world.specs.World.{Call, begin, finish, withdraw, findMin}
 
 -- the record of an event; the dummy for none
 abbrev pub recordTold : Option Event → Record

@@ -5,7 +5,7 @@ use mathlib.Core.Path.{_≡_}
 use Rattle.request.specs.declared.Request.{Request}
 use Rattle.answers.specs.Answers.{numberOf}
 use Rattle.demands.specs.Queue.{Event, Queue, Operation, Reply, insert, reply, next}
-use Rattle.demands.specs.World.{World, Asked, begin, finish, Outcome, step}
+use Rattle.world.specs.World.{World, Asked, Outcome, afterBegin, afterRound}
 use Rattle.demands.specs.Says.{asks, says}
 
 -- a request, with the list and the words that are lent for it
@@ -14,10 +14,10 @@ pub data Round : Type 0 where
 
 module _ (u : World) where
   abbrev pub listing : Round → Outcome
-  listing (round asked lent words) = step u (begin asked lent)
+  listing (round {r} asked lent words) = afterBegin u r lent
 
   abbrev pub ending : Round → Outcome
-  ending (round asked lent words) = step (step u (begin asked lent) .world) (finish words)
+  ending (round {r} asked lent words) = afterRound u r lent words
 
 -- none of them is refused, neither the begin nor the finish
 pub data Passes : World → List Round → Type 0 where

@@ -10,7 +10,7 @@ use Rattle.request.specs.declared.Request.the-variants.{Insert, Extract, Delete
 use Rattle.answers.specs.declared.Answer.{Answer}
 use Rattle.answers.specs.declared.Answer.the-variants.{Started, Listed, Least, Withdrawn, Inserted, Extracted, Deleted, Refused}
 use Rattle.demands.specs.Queue.{Reference, Event, Operation, insert, extractMin, delete, nothing, findMin as findLeast, Reply, referred, told, wasFound, silent}
-use Rattle.demands.specs.World.{Call, begin, finish, withdraw, findMin}
+use Rattle.world.specs.World.{Call, begin, finish, withdraw, findMin}
 
 abbrev pub refOf : Leaf → Stamp → Reference
 refOf label stamp = record { label = label .0; stamp = stamp .0 }
@@ -37,11 +37,11 @@ pendingAfter p withdraw = Nothing
 pendingAfter p findMin = p
 
 -- what a call asks of the queue: a finish the pending request; a begin and a withdraw nothing
-abbrev pub requestOf : Waiting → Call → Operation
-requestOf p (begin asked places) = nothing
-requestOf p (finish words) = waitingAsks p
-requestOf p withdraw = nothing
-requestOf p findMin = findLeast
+abbrev pub operationOf : Waiting → Call → Operation
+operationOf p (begin asked places) = nothing
+operationOf p (finish words) = waitingAsks p
+operationOf p withdraw = nothing
+operationOf p findMin = findLeast
 
 -- what an answer says, words moved and lists aside
 abbrev pub says : Answer → Reply

@@ -3,7 +3,7 @@
 use Prim.Native.Nat.{ℕ, zero, suc, _+_, _*_, _≤_}
 use mathlib.Core.Bool.{true, false}
 use mathlib.Core.List.{List}
-use mathlib.Core.Path.{_≡_, refl, sym, subst, _∙_}
+use mathlib.Core.Path.{_≡_, refl, sym, _∙_, ap}
 use native.Mathlib.Omega.{arith}
 use native.Mathlib.Nat.{mul-le-mul-right}
 use lib.ListN.{length}
@@ -13,11 +13,9 @@ use Rattle.path.specs.declared.sizes.Sizes.{Sizes}
 use Rattle.path.specs.Layout.{bucketWords}
 use Rattle.lists.specs.BucketList.{BucketList, counts, laid}
 use Rattle.lists.proofs.ListLaws.{length-numbers}
-use Rattle.path.proofs.SizesLaws.{in-range, tree-range}
-use Rattle.refusal.specs.Refusal.{firstGiven}
-use Rattle.settle.specs.Left.{wordsLeft}
-use Rattle.copies.specs.Copy.{fetched, stored}
-use Rattle.rack.proofs.ListedLaws.{laid-passes}
+use Rattle.path.proofs.SizesLaws.{in-range}
+use Rattle.refusal.specs.Refusal.{firstGiven, orElse}
+use Rattle.answers.specs.Answers.{numberOf}
 use Rattle.request.specs.declared.Request.{Request}
 use Rattle.request.specs.declared.Waiting.the-variants.{For}
 use Rattle.request.specs.declared.job.Job.{Job}
@@ -29,17 +27,20 @@ use Rattle.card.specs.declared.Card.{Card}
 use Rattle.card.specs.Tables.{partsOf, requestTable}
 use Rattle.card.specs.Calls.{withWaiting, listOf, beginTable}
 use Rattle.card.specs.Answers.{orRefused}
-use Rattle.card.specs.Finish.{leftBy, wordsNeeded, finishTable, finishedBy, cardLeft}
+use Rattle.card.specs.Finish.{wordsNeeded, finishedBy}
 use Rattle.card.proofs.CallLaws.{same-list}
+use Rattle.card.proofs.FinishedLaws.{finished-number}
 use Rattle.listing.proofs.ListingLaws.{counts-few}
 use Rattle.card.proofs.BeginLaws.{request-refused, room-enough}
-use Rattle.rounds.specs.Round.{listPlaces, wordPlaces, rackRefusal, finishRefusal, treeLeft, roundRefusal, roundDone, roundTree}
-use Rattle.refusal.proofs.RefusalLaws.{or-first, or-second, first-of}
+use Rattle.world.specs.World.{holdingList, unlisted, Outcome}
+use Rattle.world.proofs.WorldLaws.{listing, begin-done, begin-refused}
+use Rattle.rounds.specs.Round.{listPlaces, wordPlaces, doneIn, refusalIn, ending, begun, roundRefusal, roundDone, roundTree}
+use Rattle.refusal.proofs.RefusalLaws.{or-first, or-second, first-of, left-done}
 use Rattle.served.specs.Ready.{Ready}
 use Rattle.served.specs.LiveAfter.{liveAfter}
 use Rattle.served.proofs.CallLaws.{ready-card, begin-ready}
-use Rattle.served.proofs.FinishedLaws.{WordKey, finish-passes, finish-ready}
-use Rattle.served.proofs.RackLaws.{list-inside, fetched-room}
+use Rattle.served.proofs.FinishedLaws.{WordKey, finish-ready}
+use Rattle.served.proofs.EndLaws.{workLeft, servedBy, finish-ends}
 use Rattle.honest.specs.Seen.{ownNumber}
 
 -- ---- 64 places and 888 words hold every list
@@ -57,7 +58,7 @@ own-low n l m = rw (ne-eqb n 0 (omega arith), le-leb 4 n l, le-leb n 10 (omega a
 
 request-own : (k : Card) (r : Request) → ownNumber (firstGiven (requestTable k r)) ≡ true
 request-own k r =
-    first-of {P = λ n. ownNumber n ≡ true} refl (request-rows (k .sizes) (k .t) (k .c) (k .root) (λ n. ownNumber n ≡ true) own-low (λ f e. refl) r)
+    first-of {P = λ n. ownNumber n ≡ true} refl (request-rows (partsOf k) (k .root) (λ n. ownNumber n ≡ true) own-low (λ f e. refl) r)
 
 -- ---- a round
 module _
@@ -70,6 +71,10 @@ module _
     slots : (1 ≤ k .sizes .z) × (k .sizes .z ≤ 5)
     slots = in-range (k .sizes) (r .heap .sizes) .tree .slots
 
+    -- the card on which the request waits
+    abbrev waiting : Card
+    waiting = withWaiting k (For w)
+
     few : wordsNeeded k w ≤ length wordPlaces
     few = words-few (k .sizes) (jobOf (partsOf k) w) height (slots .1)
 
@@ -81,27 +86,29 @@ module _
           room-enough k w (length listPlaces) (ready-card k tree live r) idle none
           (omega (arith, length-numbers (listFor (k .sizes .h) (jobOf (partsOf k) w))))
 
-      rack : rackRefusal (withWaiting k (For w)) (laid (listOf k w) listPlaces) (counts (listOf k w)) (listOf k w) tree ≡ 0
-      unfolding rackRefusal listOf
-      rack =
-          laid-passes (listOf k w) listPlaces (k .sizes .h) (k .sizes .z) (length tree) (length wordPlaces)
-          (tree-range (k .sizes) (r .heap .sizes)) (r .heap .words) (list-inside k tree live r w none) few
+      -- so begin, fetch, finish and store leave what a request leaves that is served
+      pub round-ends : ending (begun k w tree .world) ≡ servedBy waiting tree w wordPlaces
+      round-ends =
+          let same : listing (unlisted k tree) w listPlaces ≡ holdingList waiting tree (laid (listOf waiting w) listPlaces) (counts (listOf waiting w)) =
+          ap (λ (l : BucketList). holdingList waiting tree (laid l listPlaces) (counts l)) (same-list k waiting w refl refl) in
+          ap (λ (o : Outcome). ending (o .world)) (sym (begin-done (unlisted k tree) w listPlaces begins))
+          ∙ ap ending same ∙ finish-ends waiting tree listPlaces live (begin-ready k tree live w r none) w refl word wordPlaces few
 
-      finish : finishRefusal (withWaiting k (For w)) (laid (listOf k w) listPlaces) (counts (listOf k w)) (listOf k w) tree ≡ 0
-      unfolding finishRefusal
-      finish =
-          let same = same-list (withWaiting k (For w)) k w refl refl in
-          subst (λ (l : BucketList). firstGiven (finishTable (withWaiting k (For w)) (fetched (k .sizes .z) tree l wordPlaces)) ≡ 0) same
-          (finish-passes (withWaiting k (For w)) tree wordPlaces live (begin-ready k tree live w r none) w refl word
-          (omega (arith, few, fetched-room (k .sizes .z) tree (listOf (withWaiting k (For w)) w) wordPlaces)))
+      round-passes : roundRefusal k w tree ≡ 0
+      unfolding roundRefusal
+      round-passes =
+          let first = ap (λ (o : Outcome). numberOf (o .answer)) (sym (begin-done (unlisted k tree) w listPlaces begins)) in
+          let then = ap refusalIn round-ends ∙ ap (λ (n : ℕ). orElse n 0) (finished-number waiting w _) in
+          or-second _ _ first ∙ then
 
     either : (n : ℕ) → firstGiven (requestTable k w) ≡ n → roundRefusal k w tree ≡ firstGiven (requestTable k w)
     unfolding roundRefusal
-    either zero e = or-second _ _ (begins e) ∙ or-second _ _ (rack e) ∙ finish e ∙ sym e
+    either zero e = round-passes e ∙ sym e
     either (suc n) e =
         let some′ : firstGiven (requestTable k w) ≡ 0 → ⊥ = λ z. let m : suc n ≡ 0 = sym e ∙ z in omega arith in
         let b = request-refused k w (length listPlaces) (ready-card k tree live r) idle some′ in
-        or-first (firstGiven (beginTable k w (length listPlaces))) _ (λ z. some′ (sym b ∙ z)) ∙ b
+        let given = ap (λ (o : Outcome). numberOf (o .answer)) (sym (begin-refused (unlisted k tree) w listPlaces (λ z. some′ (sym b ∙ z)))) in
+        or-first _ _ (λ z. some′ (sym b ∙ sym given ∙ z)) ∙ given ∙ b
 
     -- the first of the request's own refusals, or none
     pub round-number : roundRefusal k w tree ≡ firstGiven (requestTable k w)
@@ -110,15 +117,18 @@ module _
     pub round-own : ownNumber (roundRefusal k w tree) ≡ true
     round-own = rw round-number (request-own k w)
 
-    -- and a round that is not refused leaves card and tree ready, with the events that are then live
-    pub round-ready :
-        firstGiven (requestTable k w) ≡ 0 → Ready (roundDone k w tree .card) (roundTree k w tree) (liveAfter (partsOf k) live w)
-    unfolding roundDone roundTree treeLeft orRefused finishedBy
-    round-ready none =
-        let same = same-list (withWaiting k (For w)) k w refl refl in
-        let passed : roundRefusal k w tree ≡ 0 = round-number ∙ none in
-        rw passed
-        (subst
-        (λ (l : BucketList). Ready (cardLeft (withWaiting k (For w)) (leftBy (withWaiting k (For w)) w (fetched (k .sizes .z) tree l wordPlaces))) (stored (k .sizes .z) (l .whole) (wordsLeft (leftBy (withWaiting k (For w)) w (fetched (k .sizes .z) tree l wordPlaces)) (fetched (k .sizes .z) tree l wordPlaces)) tree) (liveAfter (partsOf k) live w))
-        same
-        (finish-ready (withWaiting k (For w)) tree wordPlaces live (begin-ready k tree live w r none) w refl word))
+    -- a round that is not refused hands back what its finish worked out
+    module _ (none : firstGiven (requestTable k w) ≡ 0) where
+      pub round-done : roundDone k w tree ≡ finishedBy waiting w (workLeft waiting tree w wordPlaces)
+      unfolding roundDone orRefused finishedBy
+      round-done = rw (round-passes none) (ap doneIn (round-ends none))
+
+      round-tree : roundTree k w tree ≡ servedBy waiting tree w wordPlaces .world .tree
+      unfolding roundRefusal roundTree
+      round-tree = left-done _ _ _ (round-passes none) ∙ ap (λ (o : Outcome). o .world .tree) (round-ends none)
+
+      -- and leaves card and tree ready, with the events that are then live
+      pub round-ready : Ready (roundDone k w tree .card) (roundTree k w tree) (liveAfter (partsOf k) live w)
+      unfolding finishedBy
+      round-ready =
+          rw (round-done, round-tree) (finish-ready waiting tree wordPlaces live (begin-ready k tree live w r none) w refl word)

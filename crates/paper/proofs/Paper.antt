@@ -36,7 +36,8 @@ use Rattle.fields.specs.Behind.{behind, allNumbers}
 use Rattle.fields.specs.Pieces.{pieces, before, sameBytes}
 use Rattle.lines.specs.Says.{saidOf, saidBy, lineSays}
 use Rattle.frames.specs.Answer.{answerLine}
-use Rattle.rounds.specs.Round.{rackRefusal, finishRefusal, treeLeft, roundRefusal, roundDone, roundTree}
+use Rattle.world.specs.World.{afterBegin, afterFinish}
+use Rattle.rounds.specs.Round.{roundRefusal, roundDone, roundTree}
 use Rattle.steps.specs.Step.{treeWordsUsed, sizedTo, askedFor, minOf, stepOf}
 use Rattle.paper.specs.Run.{startedDesk, given, stated}
 use Rattle.paper.specs.Table.{table}
@@ -50,6 +51,6 @@ unfolding flatMap every reals bears stampTwice earlier smallerBy smallestBy same
     leastAfter seated oddLeast badParts removal insertion removalDamaged insertionDamaged orRefused badCard startTable
     listOf callTable callRows leftBy damagedBy finishedBy insertRows extractRows deleteRows requestRows
     waits anyOutside stored digits fewest valueFrom allDigits isNumber behind pieces before sameBytes allNumbers saidOf
-    saidBy lineSays answerLine rackRefusal finishRefusal treeLeft roundRefusal roundDone roundTree treeWordsUsed sizedTo
+    saidBy lineSays answerLine afterBegin afterFinish roundRefusal roundDone roundTree treeWordsUsed sizedTo
     askedFor minOf stepOf given stated
 paper = refl

@@ -1,10 +1,10 @@
 -- Lines played one after another, and what is looked at behind each: document 01, "Input, then whole output". Assumes nothing.
 use Prim.Native.Nat.{ℕ}
 use mathlib.Core.List.{List, [], _∷_, _++_}
-use lib.ListN.{length, replicate, drop}
+use lib.ListN.{replicate, drop}
 use Rattle.path.specs.Path.{bucket}
 use Rattle.path.specs.Layout.{recordWords}
-use Rattle.lists.specs.BucketList.{numbers}
+use Rattle.lists.specs.BucketList.{counts, numbers}
 use Rattle.copies.specs.Copy.{bucketPart}
 use Rattle.request.specs.declared.Request.{Request}
 use Rattle.card.specs.Calls.{listOf}
@@ -61,6 +61,6 @@ slotsOfBoth m n l = slotsOfBucket m l ++ slotsOfBucket n l
 -- how many buckets a request asks for whole and how many for least records, and their numbers
 abbrev pub asksFor : Request → LineLeft → List ℕ
 asksFor w l =
-    length (listOf (l .turn .desk .card) w .whole)
-    ∷ length (listOf (l .turn .desk .card) w .least)
+    counts (listOf (l .turn .desk .card) w) .whole
+    ∷ counts (listOf (l .turn .desk .card) w) .least
     ∷ numbers (listOf (l .turn .desk .card) w)

@@ -19,7 +19,7 @@ use Rattle.path.proofs.PathLaws.{path-in-tree, sibling-in-tree, levels-apart, p
 use Rattle.path.proofs.LevelLaws.{at-level}
 use Rattle.lists.proofs.Naming.{path-named, siblings-named}
 use Rattle.refusal.specs.Refusal.{firstGiven}
-use Rattle.rack.specs.Answers.{wordsFor, outside, anyOutside, copyTable}
+use Rattle.rack.specs.Answers.{wordsCovered, outside, anyOutside, copyTable}
 use Rattle.copies.specs.Copy.{listed}
 use Rattle.rack.proofs.RefusalLaws.{not-outside, passes-copy}
 use Rattle.copies.proofs.StoreLaws.{Distinct, none, more}
@@ -49,7 +49,7 @@ module _ (l : BucketList) (places : List ℕ) where
   -- a list with no number outside is not refused
   pub laid-passes :
       (h z tree words : ℕ) → treeIn h z ≡ true → tree ≡ treeWords h z → anyOutside h (numbers l) ≡ false
-      → wordsFor z (counts l .whole) (counts l .least) ≤ words
+      → wordsCovered z (counts l .whole) (counts l .least) ≤ words
       → firstGiven (copyTable h z tree (laid l places) (counts l .whole) (counts l .least) words) ≡ 0
   laid-passes h z tree words sizes whole-tree inside room =
       passes-copy h z tree (laid l places) (counts l .whole) (counts l .least) words

@@ -16,7 +16,7 @@ use Rattle.path.specs.Layout.{bucketWords, treeWords}
 use Rattle.path.proofs.SizesLaws.{between-true}
 use Rattle.refusal.specs.Refusal.{firstGiven}
 use Rattle.refusal.proofs.RefusalLaws.{none-given}
-use Rattle.rack.specs.Answers.{badSize, otherTree, overCounted, wordsFor, fewWords, outside, anyOutside, fillTable, copyTable}
+use Rattle.rack.specs.Answers.{badSize, otherTree, overCounted, wordsCovered, fewWords, outside, anyOutside, fillTable, copyTable}
 
 -- ---- words too few, by division
 same-test : (a b c d : ℕ) → (a < b → c < d) → (b ≤ a → d ≤ c) → ltb a b ≡ ltb c d
@@ -36,12 +36,12 @@ module _ (z whole words : ℕ) where
     pub few-for-whole : words / bucketWords z < whole → true ≡ fewWords z whole least words
     few-for-whole l =
         let short = div-lt-iff-lt-mul some-words .0 l in
-        sym (lt-ltb words (wordsFor z whole least) (omega arith))
+        sym (lt-ltb words (wordsCovered z whole least) (omega arith))
 
     pub few-for-least :
         whole * bucketWords z ≤ words → ltb ((words - whole * bucketWords z) / 4) least ≡ fewWords z whole least words
     few-for-least l =
-        same-test ((words - whole * bucketWords z) / 4) least words (wordsFor z whole least) (omega arith) (omega arith)
+        same-test ((words - whole * bucketWords z) / 4) least words (wordsCovered z whole least) (omega arith) (omega arith)
 
 -- ---- numbers outside the tree
 module _ (h n : ℕ) where
@@ -89,7 +89,7 @@ pub record TreePasses (h z tree : ℕ) : Type 0 where
 pub record CopyPasses (h z tree : ℕ) (list : List ℕ) (whole least words : ℕ) : Type 0 where
   pub passes : TreePasses h z tree
   pub counted : whole + least ≤ length list
-  pub room : wordsFor z whole least ≤ words
+  pub room : wordsCovered z whole least ≤ words
   pub inside : anyOutside h (take (whole + least) list) ≡ false
 
 module _ (h z tree : ℕ) where
@@ -126,7 +126,7 @@ module _ (h z tree : ℕ) where
           p .passes .sizes,
           eq-eqb tree (treeWords h z) (p .passes .whole-tree),
           le-ltb (length list) (whole + least) (p .counted),
-          le-ltb words (wordsFor z whole least) (p .room),
+          le-ltb words (wordsCovered z whole least) (p .room),
           p .inside,
         )
 

@@ -34,11 +34,11 @@ abbrev pub overCounted : List ℕ → ℕ → ℕ → Bool
 overCounted list whole least = ltb (length list) (whole + least)
 
 -- "Fetch and store both .. need words for all of them"
-abbrev pub wordsFor : ℕ → ℕ → ℕ → ℕ
-wordsFor z whole least = fetchedFor z (record { whole = whole; least = least })
+abbrev pub wordsCovered : ℕ → ℕ → ℕ → ℕ
+wordsCovered z whole least = fetchedFor z (record { whole = whole; least = least })
 
 abbrev pub fewWords : ℕ → ℕ → ℕ → ℕ → Bool
-fewWords z whole least words = ltb words (wordsFor z whole least)
+fewWords z whole least words = ltb words (wordsCovered z whole least)
 
 -- BadBucket: "the rack is given a number outside 2 to 2N-1"
 abbrev pub outside : ℕ → ℕ → Bool

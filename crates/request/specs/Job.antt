@@ -8,8 +8,8 @@ use Rattle.request.specs.declared.job.Job.{Job}
 use Rattle.request.specs.declared.job.Job.the-variants.{Path, Pair}
 
 -- "Insert puts the record, with stamp t"; "ExtractMin uses the label of the root's least record", and takes out the record with that
--- label and the least record's stamp, which is the root's least record itself (`extracts-least`, `extracts-damaged` in
--- card/proofs/LastingLaws.antt); "Delete takes label and stamp."
+-- label and the least record's stamp, which is the root's least record itself (`TakesLeast` in card/specs/Finish.antt); "Delete takes
+-- label and stamp."
 abbrev pub jobOf : Parts → Request → Job
 jobOf p (Insert key value label first second) = Pair first second (recordOf key value label (nextStamp p))
 jobOf p Extract = Path (p .least .label) (p .least .label) (p .least .stamp)

@@ -7,11 +7,12 @@ use lib.Dec.{ltb, leb, eqb}
 use Rattle.record.specs.declared.Leaf.{Leaf}
 use Rattle.record.specs.declared.Stamp.{Stamp}
 use Rattle.record.specs.declared.Record.{Record}
-use Rattle.record.specs.Standing.{dummyKey, ruleFor, known}
-use Rattle.path.specs.declared.sizes.Sizes.{Sizes}
+use Rattle.record.specs.Standing.{dummyKey, known}
 use Rattle.path.specs.Sizes.{leavesOf}
 use Rattle.root.specs.Root.{rootFull}
 use Rattle.refusal.specs.Refusal.{Refusal, row}
+use Rattle.parts.specs.declared.Parts.{Parts}
+use Rattle.parts.specs.Parts.{ruleOf}
 use Rattle.request.specs.declared.Waiting.{Waiting}
 use Rattle.request.specs.declared.Waiting.the-variants.{Nothing, For}
 use Rattle.request.specs.declared.Request.{Request}
@@ -25,25 +26,25 @@ badLabel n label = leb n (label .0)
 abbrev pub badHalves : ℕ → Leaf → Leaf → Bool
 badHalves n first second = leb (n / 2) (first .0) || (ltb (second .0) (n / 2) || leb n (second .0))
 
--- Insert, ExtractMin and Delete on a card of these sizes and counts
-module _ (s : Sizes) (t c : ℕ) where
+-- Insert, ExtractMin and Delete on a card of these parts, whatever its least record is; of the root only an Insert asks
+module _ (p : Parts) where
   unfoldable pub insertRows : List Record → ℕ → Leaf → Leaf → Leaf → List Refusal
   insertRows root key label first second =
-      row 4 (eqb t (s .t))
+      row 4 (eqb (p .t) (p .sizes .t))
       ∷ row 5 (eqb key dummyKey)
-      ∷ row 6 (badLabel (leavesOf (s .h)) label || badHalves (leavesOf (s .h)) first second)
-      ∷ row 9 (eqb c (leavesOf (s .h)))
-      ∷ row 10 (rootFull (s .r) root)
+      ∷ row 6 (badLabel (leavesOf (p .sizes .h)) label || badHalves (leavesOf (p .sizes .h)) first second)
+      ∷ row 9 (eqb (p .c) (leavesOf (p .sizes .h)))
+      ∷ row 10 (rootFull (p .sizes .r) root)
       ∷ []
 
   unfoldable pub extractRows : List Refusal
-  extractRows = row 4 (eqb t (s .t)) ∷ row 8 (eqb c 0) ∷ []
+  extractRows = row 4 (eqb (p .t) (p .sizes .t)) ∷ row 8 (eqb (p .c) 0) ∷ []
 
   unfoldable pub deleteRows : Leaf → Stamp → List Refusal
   deleteRows label stamp =
-      row 4 (eqb t (s .t))
-      ∷ row 6 (badLabel (leavesOf (s .h)) label)
-      ∷ row 7 (not (known (ruleFor (leavesOf (s .h)) t) stamp))
+      row 4 (eqb (p .t) (p .sizes .t))
+      ∷ row 6 (badLabel (leavesOf (p .sizes .h)) label)
+      ∷ row 7 (not (known (ruleOf p) stamp))
       ∷ []
 
   unfoldable pub requestRows : List Record → Request → List Refusal

@@ -7,7 +7,6 @@ pub use job::Job;
 pub use job::job_of;
 ghost use mathlib.Core.Path.{_≡_};
 ghost use Prim.Native.Nat.{_≤_};
-ghost use lib.ListN.{length};
 ghost use Rattle.record.specs.Words.{records};
 ghost use Rattle.refusal.specs.Refusal.{firstGiven};
 ghost use Rattle.request.specs.Tables.{insertRows, extractRows, deleteRows, requestRows, waitingRows, waits};
@@ -56,8 +55,8 @@ pub fn is_waiting(waiting: Waiting) -> bool
 
 // The number of the first refusal from 4 to 10 that an Insert meets, 0 for none.
 fn why_insert(root: &[u64], parts: Parts, key: u64, label: Leaf, first: Leaf, second: Leaf) -> u64
-    requires { ⌜ (parts .sizes .h ≤ 16) × ((parts .sizes .r ≤ 64) × (length (now root) ≡ 256)) ⌝ }
-    ensures { λ r. ⌜ r ≡ firstGiven (insertRows (parts .sizes) (parts .t) (parts .c) (records (now (root .entry))) key label first second) ⌝ }
+    requires { ⌜ parts .sizes .h ≤ 16 ⌝ }
+    ensures { λ r. ⌜ r ≡ firstGiven (insertRows parts (records (now (root .entry))) key label first second) ⌝ }
 {
     if parts.t == parts.sizes.t {
         return SPENT;
@@ -89,7 +88,7 @@ fn why_insert(root: &[u64], parts: Parts, key: u64, label: Leaf, first: Leaf, se
 }
 
 fn why_extract(parts: Parts) -> u64
-    ensures { λ r. ⌜ r ≡ firstGiven (extractRows (parts .sizes) (parts .t) (parts .c)) ⌝ }
+    ensures { λ r. ⌜ r ≡ firstGiven (extractRows parts) ⌝ }
 {
     if parts.t == parts.sizes.t {
         return SPENT;
@@ -102,7 +101,7 @@ fn why_extract(parts: Parts) -> u64
 
 fn why_delete(parts: Parts, label: Leaf, stamp: Stamp) -> u64
     requires { ⌜ parts .sizes .h ≤ 16 ⌝ }
-    ensures { λ r. ⌜ r ≡ firstGiven (deleteRows (parts .sizes) (parts .t) (parts .c) label stamp) ⌝ }
+    ensures { λ r. ⌜ r ≡ firstGiven (deleteRows parts label stamp) ⌝ }
 {
     if parts.t == parts.sizes.t {
         return SPENT;
@@ -119,8 +118,8 @@ fn why_delete(parts: Parts, label: Leaf, stamp: Stamp) -> u64
 
 // For crates above: the number of the first refusal from 4 to 10 that a request meets, 0 for none.
 pub fn why_request(root: &[u64], parts: Parts, request: Request) -> u64
-    requires { ⌜ (parts .sizes .h ≤ 16) × ((parts .sizes .r ≤ 64) × (length (now root) ≡ 256)) ⌝ }
-    ensures { λ r. ⌜ r ≡ firstGiven (requestRows (parts .sizes) (parts .t) (parts .c) (records (now (root .entry))) request) ⌝ }
+    requires { ⌜ parts .sizes .h ≤ 16 ⌝ }
+    ensures { λ r. ⌜ r ≡ firstGiven (requestRows parts (records (now (root .entry))) request) ⌝ }
 {
     match request {
         Request::Insert {
@@ -137,8 +136,8 @@ pub fn why_request(root: &[u64], parts: Parts, request: Request) -> u64
 
 // For crates above: the same of what waits, 0 where nothing does.
 pub fn why_waiting(root: &[u64], parts: Parts, waiting: Waiting) -> u64
-    requires { ⌜ (parts .sizes .h ≤ 16) × ((parts .sizes .r ≤ 64) × (length (now root) ≡ 256)) ⌝ }
-    ensures { λ r. ⌜ r ≡ firstGiven (waitingRows (parts .sizes) (parts .t) (parts .c) (records (now (root .entry))) waiting) ⌝ }
+    requires { ⌜ parts .sizes .h ≤ 16 ⌝ }
+    ensures { λ r. ⌜ r ≡ firstGiven (waitingRows parts (records (now (root .entry))) waiting) ⌝ }
 {
     match waiting {
         Waiting::Nothing => 0,

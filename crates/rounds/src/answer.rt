@@ -1,7 +1,7 @@
 // What an answer of the card says: the counts of a list.
 ghost use mathlib.Core.Path.{_≡_};
 ghost use Rattle.card.specs.Answers.{refused};
-ghost use Rattle.rounds.specs.Round.{countsIn};
+ghost use Rattle.world.specs.Promised.{countsIn};
 use answers::Answer;
 use card::Card;
 use card::Done;

@@ -1,8 +1,9 @@
 // A request that is begun, carried to its end: document 01, "A request, step by step". `card` is the card before its begin.
 ghost use mathlib.Core.Path.{_≡_};
 ghost use Rattle.answers.specs.Answers.{numberOf};
-ghost use Rattle.copies.specs.Copy.{listed};
-ghost use Rattle.rounds.specs.Round.{countsIn, Carries};
+ghost use Rattle.world.specs.World.{holdingList};
+ghost use Rattle.world.specs.Promised.{countsIn};
+ghost use Rattle.rounds.specs.Round.{Carries};
 use crate::answer;
 use card::Card;
 use card::Done;
@@ -13,7 +14,7 @@ const WORDS_MOST: usize = 888;
 
 // Fetched, finished and stored.
 fn carry(card: Card, begun: Card, list: &[u64], n: Listed, tree: &mut [u64]) -> Done
-    ensures { λ d. ⌜ Carries card 0 begun (now (list .entry)) n (listed (now (list .entry)) (n .whole) (n .least)) (now (tree .entry)) (now (tree .exit)) d ⌝ }
+    ensures { λ d. ⌜ Carries card 0 (holdingList begun (now (tree .entry)) (now (list .entry)) n) (now (tree .exit)) d ⌝ }
 {
     let mut words = [0u64; WORDS_MOST];
     let h = begun.sizes.h;
@@ -35,7 +36,7 @@ fn carry(card: Card, begun: Card, list: &[u64], n: Listed, tree: &mut [u64]) -> 
 
 // What begin answered decides whether there is anything to carry.
 pub(crate) fn go_on(card: Card, begun: Done, list: &[u64], tree: &mut [u64]) -> Done
-    ensures { λ d. ⌜ Carries card (numberOf (begun .answer)) (begun .card) (now (list .entry)) (countsIn (begun .answer)) (listed (now (list .entry)) (countsIn (begun .answer) .whole) (countsIn (begun .answer) .least)) (now (tree .entry)) (now (tree .exit)) d ⌝ }
+    ensures { λ d. ⌜ Carries card (numberOf (begun .answer)) (holdingList (begun .card) (now (tree .entry)) (now (list .entry)) (countsIn (begun .answer))) (now (tree .exit)) d ⌝ }
 {
     let given = begun.answer;
     let number = answers::number_of(given);

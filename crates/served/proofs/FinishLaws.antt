@@ -1,6 +1,6 @@
 -- A finish on a ready card, for each request that may wait: it is not Damaged, and the card that comes out is ready, with the
 -- tree into which the rack has stored the whole buckets. Assumes nothing.
-use Prim.Native.Nat.{ℕ, suc, _≤_, _<_}
+use Prim.Native.Nat.{ℕ, _≤_, _<_}
 use mathlib.Core.Bool.{Bool, true, false, cond}
 use mathlib.Core.List.{List, [], _∷_, _++_}
 use mathlib.Core.Path.{_≡_, refl}

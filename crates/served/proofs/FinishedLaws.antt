@@ -4,7 +4,7 @@
 use Prim.Native.Nat.{ℕ, _≤_}
 use mathlib.Core.Bool.{false}
 use mathlib.Core.List.{List}
-use mathlib.Core.Path.{_≡_, ap, _∙_}
+use mathlib.Core.Path.{_≡_}
 use lib.ListN.{length}
 use Rattle.record.specs.declared.Record.{Record}
 use Rattle.record.specs.Standing.{dummyKey}
@@ -14,13 +14,10 @@ use Rattle.copies.specs.Copy.{fetched, stored}
 use Rattle.card.specs.declared.Card.{Card}
 use Rattle.request.specs.declared.Request.{Request}
 use Rattle.request.specs.declared.Request.the-variants.{Insert, Extract, Delete}
-use Rattle.request.specs.declared.Waiting.{Waiting}
 use Rattle.request.specs.declared.Waiting.the-variants.{For}
-use Rattle.card.specs.declared.Done.{Done}
 use Rattle.card.specs.Tables.{partsOf}
-use Rattle.card.specs.Answers.{orRefused}
 use Rattle.card.specs.Calls.{listOf}
-use Rattle.card.specs.Finish.{leftBy, damagedBy, cardLeft, wordsNeeded, finishTable, finishedBy, finishedFor, wordsFor, Finishes}
+use Rattle.card.specs.Finish.{leftBy, damagedBy, cardLeft, wordsNeeded, finishTable}
 use Rattle.card.proofs.FinishLaws.{words-enough}
 use Rattle.card.proofs.FinishedLaws.{gives-none}
 use Rattle.served.specs.Ready.{Ready}
@@ -58,12 +55,3 @@ module _ (k : Card) (tree words : List ℕ) (live : List Record) (r : Ready k tr
   module _ (q : Request) (busy : k .waiting ≡ For q) (word : WordKey q) (room : wordsNeeded k q ≤ length (shown q)) where
     pub finish-passes : firstGiven (finishTable k (shown q)) ≡ 0
     finish-passes = gives-none k _ q busy (words-enough k _ q (ready-card k tree live r) busy room) (finish-undamaged q busy word)
-
-    -- so finish hands back what it worked out, and leaves it in the words
-    pub finish-done : (after : List ℕ) (answer : Done) → Finishes k (shown q) after answer
-        → (answer ≡ finishedBy k q (leftBy k q (shown q))) × (after ≡ wordsLeft (leftBy k q (shown q)) (shown q))
-    unfolding orRefused
-    finish-done after answer f = (
-      (rw finish-passes at (f .call .whole)) ∙ ap (λ (w : Waiting). finishedFor k w (shown q)) busy,
-      (rw finish-passes at (f .words)) ∙ ap (λ (w : Waiting). wordsFor k w (shown q)) busy,
-    )

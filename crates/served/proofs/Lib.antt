@@ -3,3 +3,4 @@ pub mod CallLaws
 pub mod FinishLaws
 pub mod RackLaws
 pub mod FinishedLaws
+pub mod EndLaws

@@ -2,4 +2,4 @@
 // that holds its heap, comes out good with the live events that the request leaves, whatever the request; no call meets a
 // BadCard, and no finish finds anything Damaged.
 //
-// Stands on the definitions and laws of `card`, `good` and of the crates below them.
+// Stands on the definitions and laws of `card`, `world`, `good` and of the crates below them.

@@ -9,10 +9,8 @@ use lib.Seq.{take-at}
 use Rattle.path.specs.Sizes.{inRange}
 use Rattle.path.specs.Layout.{treeWords}
 use Rattle.path.proofs.SizesLaws.{tree-range}
-use Rattle.lists.specs.BucketList.{BucketList}
 use Rattle.refusal.specs.Refusal.{firstGiven}
 use Rattle.settle.specs.Left.{Left}
-use Rattle.copies.specs.Copy.{fetched}
 use Rattle.card.specs.declared.Card.{Card}
 use Rattle.card.specs.declared.Done.{Done}
 use Rattle.answers.specs.declared.Answer.the-variants.{Refused}
@@ -20,21 +18,22 @@ use Rattle.request.specs.declared.Request.{Request}
 use Rattle.request.specs.declared.Waiting.the-variants.{For}
 use Rattle.request.specs.Tables.{waits}
 use Rattle.card.specs.Tables.{partsOf, requestTable}
-use Rattle.card.specs.Calls.{withWaiting, listOf}
+use Rattle.card.specs.Calls.{withWaiting}
 use Rattle.answers.specs.Answers.{numberOf}
-use Rattle.card.specs.Answers.{refused, orRefused}
-use Rattle.card.specs.Finish.{leftBy, cardLeft, finishedBy}
-use Rattle.refusal.proofs.RefusalLaws.{left-before}
-use Rattle.card.proofs.CallLaws.{same-list}
+use Rattle.card.specs.Answers.{refused}
+use Rattle.card.specs.Finish.{cardLeft, finishedBy}
 use Rattle.served.specs.Ready.{Ready}
 use Rattle.served.specs.LiveAfter.{liveAfter}
 use Rattle.served.proofs.CallLaws.{begin-ready}
 use Rattle.served.proofs.FinishedLaws.{WordKey}
+use Rattle.served.proofs.EndLaws.{workLeft}
+use Rattle.card.proofs.FinishedLaws.{finished-number}
 use Rattle.rounds.specs.Round.{wordPlaces, roundRefusal, roundDone, roundTree}
-use Rattle.honest.proofs.RoundLaws.{round-number, round-ready}
+use Rattle.rounds.proofs.RoundLaws.{refused-round}
+use Rattle.honest.proofs.RoundLaws.{round-number, round-done, round-ready}
 use Rattle.demands.specs.Queue.{Queue, reply, next}
 use Rattle.demands.specs.Says.{asks, says}
-use Rattle.demands.proofs.AnswerLaws.{queueOf, finished-number, finish-says, next-events, next-taken}
+use Rattle.demands.proofs.AnswerLaws.{queueOf, finish-says, next-events, next-taken}
 use Rattle.steps.specs.declared.Desk.{Desk}
 use Rattle.steps.specs.Step.{treeWordsUsed, usedOf, tells, kept, head, rest, played}
 use Rattle.steady.specs.Steady.{Holds}
@@ -80,18 +79,16 @@ module _ (desk : Desk) (tree : List ℕ) (q : Queue) (h : Holds desk tree q) whe
 
     -- ---- refused
     module _ (some-number : number ≡ 0 → ⊥) where
-      refused-done : out ≡ refused k number
-      unfolding roundDone orRefused
-      refused-done = rw round-is (left-before number _ (refused k number) some-number)
+      kept-round : (out ≡ refused k (roundRefusal k w (head desk tree))) × (after ≡ head desk tree)
+      kept-round = refused-round k w (head desk tree) (λ z. some-number (sym round-is ∙ z))
 
-      same-tree : after ≡ head desk tree
-      unfolding roundTree
-      same-tree = rw round-is (left-before number _ (head desk tree) some-number)
+      refused-done : out ≡ refused k number
+      refused-done = kept-round .0 ∙ ap (refused k) round-is
 
       pub round-refused : played desk tree w ≡ record { turn = kept desk (Refused number); tree = tree }
       round-refused =
           let turn : tells out ≡ kept desk (Refused number) = ap tells refused-done ∙ ap (λ (d : Desk). kept d (Refused number)) own-desk in
-          let whole : after ++ rest desk tree ≡ tree = rw (same-tree, take-append-drop) in
+          let whole : after ++ rest desk tree ≡ tree = rw (kept-round .1, take-append-drop) in
           λ i. record { turn = turn i; tree = whole i }
 
     -- ---- answered
@@ -102,15 +99,13 @@ module _ (desk : Desk) (tree : List ℕ) (q : Queue) (h : Holds desk tree q) whe
       ready : Ready waiting (head desk tree) (h .live)
       ready = begin-ready k (head desk tree) (h .live) w (h .ready) none
 
-      abbrev shown : BucketList → List ℕ
-      shown l = fetched (k .sizes .z) (head desk tree) l wordPlaces
+      abbrev left : Left
+      left = workLeft waiting (head desk tree) w wordPlaces
 
-      finished-done : out ≡ finishedBy waiting w (leftBy waiting w (shown (listOf waiting w)))
-      unfolding roundDone orRefused
-      finished-done =
-          rw (round-is, none) (ap (λ (l : BucketList). finishedBy waiting w (leftBy waiting w (shown l))) (same-list k waiting w refl refl))
+      finished-done : out ≡ finishedBy waiting w left
+      finished-done = round-done k (head desk tree) (h .live) (h .ready) (h .idle) w word none
 
-      card-left : out .card ≡ cardLeft waiting (leftBy waiting w (shown (listOf waiting w)))
+      card-left : out .card ≡ cardLeft waiting left
       unfolding finishedBy
       card-left = ap (λ (d : Done). d .card) finished-done
 
@@ -135,7 +130,7 @@ module _ (desk : Desk) (tree : List ℕ) (q : Queue) (h : Holds desk tree q) whe
             sized = refl;
             live = liveAfter (partsOf k) (h .live) w;
             ready = rw (own-head (record { sized = true; card = out .card }) after (rest desk tree) (again .heap .sizes) (again .heap .words)) again;
-            idle = rw card-left (left-idle waiting (leftBy waiting w (shown (listOf waiting w))));
+            idle = rw card-left (left-idle waiting left);
             events = next-events waiting (head desk tree) (h .live) ready w refl ∙ ap (λ (p : Queue). next p (asks w) .events) own-queue;
             taken =
                 ap (λ (c : Card). c .t) card-left ∙ next-taken (k .t) (h .live) w

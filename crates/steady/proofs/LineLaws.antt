@@ -15,6 +15,7 @@ use Rattle.path.specs.declared.sizes.Sizes.{Sizes}
 use Rattle.path.specs.Sizes.{sizesOf, inRange}
 use Rattle.path.specs.Layout.{freshTree}
 use Rattle.refusal.specs.Refusal.{Refusal, firstGiven}
+use Rattle.parts.specs.declared.Parts.{Parts}
 use Rattle.card.specs.declared.Card.{Card}
 use Rattle.answers.specs.declared.Answer.the-variants.{Least, Refused}
 use Rattle.request.specs.declared.Request.{Request}
@@ -27,14 +28,15 @@ use Rattle.served.proofs.CallLaws.{start-ready, ready-card}
 use Rattle.served.proofs.FinishedLaws.{WordKey}
 use Rattle.demands.specs.Queue.{Queue, findMin, emptyQueue, leastEvent, reply, next, told}
 use Rattle.demands.specs.Says.{eventOf, asks}
-use Rattle.demands.proofs.AnswerLaws.{least-told}
+use Rattle.demands.specs.Refusals.{partsTold}
+use Rattle.demands.proofs.AnswerLaws.{least-told, parts-told}
 use Rattle.lines.specs.declared.Line.{Line}
 use Rattle.lines.specs.declared.Line.the-variants.{Unreadable, Size, Min, Ask}
 use Rattle.steps.specs.declared.Desk.{Desk}
 use Rattle.steps.specs.declared.Turn.{Turn}
 use Rattle.steps.specs.Step.{LineLeft, nothing, unread, tells, kept, fresh, sizedTo, tooLarge, treeWordsUsed, head, played, askedFor, minDone, minOf, stepOf}
 use Rattle.steady.specs.Steady.{wants, refusals, Holds, Keeps, Unheard, unreadable, early, large, Turns, ignored, misSized, sizedAnew, refusedWith, answered}
-use Rattle.steady.proofs.HeldLaws.{own-head, own-desk, round-refused, round-sizes, round-says, round-numbered, round-holds}
+use Rattle.steady.proofs.HeldLaws.{own-head, own-desk, own-queue, round-refused, round-sizes, round-says, round-numbered, round-holds}
 
 -- a line played: what it comes to, and that the desk keeps what is then held
 pub record Played (desk : Desk) (tree : List ℕ) (q : Option Queue) (line : Line) (l : LineLeft) : Type 0 where
@@ -86,7 +88,9 @@ module _ (desk : Desk) (tree : List ℕ) (q : Queue) (h : Holds desk tree q) whe
 
   module _ (w : Request) (word : WordKey w) where
     own-number : firstGiven (requestTable (desk .card) w) ≡ firstGiven (refusals (desk .card) q (Ask w))
-    own-number = λ i. firstGiven (requestRows (desk .card .sizes) (h .taken i) (events-counted i) (desk .card .root) w)
+    own-number =
+        ap (λ (p : Parts). firstGiven (requestRows p (desk .card .root) w))
+        (parts-told (desk .card) (head desk tree) (h .live) (h .ready) ∙ ap (partsTold (desk .card .sizes)) (own-queue desk tree q h))
 
     -- refused by the first of its own rows that is given, or answered
     played-line : Played desk tree (some q) (Ask w) (played desk tree w)

@@ -17,6 +17,7 @@ use Rattle.answers.specs.declared.Answer.the-variants.{Started, Refused}
 use Rattle.answers.specs.Answers.{numberOf}
 use Rattle.served.specs.Ready.{Ready}
 use Rattle.demands.specs.Queue.{Queue, Operation, findMin, emptyQueue, reply, next}
+use Rattle.demands.specs.Refusals.{partsTold}
 use Rattle.demands.specs.Says.{eventOf, asks, says}
 use Rattle.lines.specs.declared.Line.{Line}
 use Rattle.lines.specs.declared.Line.the-variants.{Unreadable, Size, Min, Ask}
@@ -31,13 +32,13 @@ wants (Size h z r t) = none
 wants Min = some findMin
 wants (Ask r) = some (asks r)
 
--- "A refusal prints its number": those that a line can meet, in their order, in the queue's words. t is its count of requests
--- taken and c the count of its events; sizes and root are the card's. Neither 2 nor 3, and none of 11 to 14
+-- "A refusal prints its number": those that a line can meet, in their order, on the parts that the queue tells of a card; sizes and
+-- root are the card's. Neither 2 nor 3, and none of 11 to 14
 abbrev pub refusals : Card → Queue → Line → List Refusal
 refusals k q Unreadable = []
 refusals k q (Size h z r t) = []
 refusals k q Min = row 8 (eqb (length (q .events)) 0) ∷ []
-refusals k q (Ask r) = requestRows (k .sizes) (q .taken) (length (q .events)) (k .root) r
+refusals k q (Ask r) = requestRows (partsTold (k .sizes) q) (k .root) r
 
 -- ---- between two lines
 -- the desk holds this queue: card and tree hold a good heap of its events, and no request waits

@@ -17,7 +17,7 @@ use Rattle.path.specs.Layout.{recordWords, bucketWords, bucketStart}
 use Rattle.lists.specs.BucketList.{BucketList}
 use Rattle.gather.specs.Shown.{wholeAt, siblingAt}
 use Rattle.gather.proofs.ShownLaws.{whole-records}
-use Rattle.rack.specs.Answers.{wordsFor}
+use Rattle.rack.specs.Answers.{wordsCovered}
 use Rattle.copies.specs.Copy.{bucketPart, fetched, AllStand}
 use Rattle.copies.specs.BucketAt.{contentsOf, bucketAt}
 use Rattle.copies.proofs.FetchLaws.{fetched-whole, fetched-least, fetched-length}
@@ -34,7 +34,7 @@ least-first z tree b =
 
 module _ (z : ℕ) (tree : List ℕ) (l : BucketList) (words : List ℕ)
     (wholes : AllStand z (length tree) (l .whole)) (leasts : AllStand z (length tree) (l .least)) where
-  pub fetched-long : wordsFor z (length (l .whole)) (length (l .least)) ≤ length (fetched z tree l words)
+  pub fetched-long : wordsCovered z (length (l .whole)) (length (l .least)) ≤ length (fetched z tree l words)
   fetched-long = rw length-append (omega (arith, fetched-length z tree l words wholes leasts))
 
   pub whole-fetched : (i : ℕ) → i < length (l .whole) → wholeAt z (fetched z tree l words) i ≡ bucketAt z tree (getD (l .whole) i (bucket 0))

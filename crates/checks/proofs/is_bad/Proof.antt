@@ -15,7 +15,7 @@ why-waiting-requires : tie.Need-why-waiting-requires
 why-waiting-requires c κs =
     let s = c .before .before .before .args in
     let r = parts-range (s .parts) (records (s .root .now)) (sym (c .before .are-parts-bad .ensures) ∙ c .if1 .left) in
-    (r .tree .height .1, (r .roots .1, search needs))
+    r .tree .height .1
 
 returns-2 : tie.Need-returns-2
 returns-2 c = rw (sym (c .before .before .are-parts-bad .ensures) ∙ c .before .if1 .left, c .why-waiting .ensures)

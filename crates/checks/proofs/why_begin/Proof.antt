@@ -18,7 +18,7 @@ why-request-requires : tie.Need-why-request-requires
 why-request-requires c κs =
     let s = c .before .before .before .args in
     let r = idle-range (s .parts) (records (s .root .now)) (s .waiting) _ (c .before .why-busy .ensures) (c .if1 .left) in
-    (r .tree .height .1, (r .roots .1, search needs))
+    r .tree .height .1
 
 returns-2 : tie.Need-returns-2
 returns-2 c =

@@ -1,7 +1,7 @@
 -- `rounds::answer::counts` meets its contract: the number of buckets of a listed answer, case by case. Assumes nothing.
 use borrow.Author.Needs.{needs}
 use mathlib.Core.Path.{sym, ap}
-use Rattle.rounds.specs.Round.{countsIn}
+use Rattle.world.specs.Promised.{countsIn}
 use Rattle.rounds.proofs.answer.counts.Statement.{statement}
 use Rattle.rounds.proofs.answer.counts.Tie as tie
 

@@ -11,7 +11,8 @@ use borrow.Author.Tests.{eq-eqb, eqb-true, eqb-false}
 use Rattle.path.specs.declared.sizes.Sizes.{Sizes}
 use Rattle.path.specs.Sizes.{treeIn, inRange}
 use Rattle.path.specs.Layout.{treeWords, freshTree}
-use Rattle.lists.specs.BucketList.{laid}
+use Rattle.lists.specs.declared.Listed.{Listed as Counts}
+use Rattle.lists.specs.BucketList.{noBuckets, counts}
 use Rattle.refusal.specs.Refusal.{firstGiven, afterwards}
 use Rattle.refusal.proofs.RefusalLaws.{left-before, left-done, none, next, first-of, append-none}
 use Rattle.rack.specs.declared.Answer.{Answer as RackAnswer}
@@ -28,113 +29,105 @@ use Rattle.card.specs.Answers.{orRefused, Answered}
 use Rattle.card.specs.Calls.{startTable, started, zeroCard, Begins, beginTable, begun, listOf, foundMin, withdrawn}
 use Rattle.card.specs.Finish.{finishTable, finishedFor, finished, Finishes}
 use Rattle.card.proofs.FinishLaws.{entry-numbered, some-waits}
-use Rattle.demands.specs.World.{World, Call, begin, finish, withdraw, findMin, Outcome, alone, rackNumber, shown, finishNumber, wordsAfter, storedFrom, finishing, step, outcomes}
-use Rattle.demands.specs.Promised.{Promised, by-begin, by-withdraw, by-min, by-refused, by-finish, Carried, ended, called, holding, told, wholeCount, leastCount, FetchesHeld, StoresHeld}
-use Rattle.demands.proofs.AnswerLaws.{finished-number}
+use Rattle.card.proofs.FinishedLaws.{finished-number, finishes}
+use Rattle.world.specs.World.{World, Call, begin, finish, withdraw, findMin, Outcome, alone, afterBegin, rackNumber, shown, finishNumber, wordsAfter, storedFrom, finishing, afterFinish, step, outcomes}
+use Rattle.world.specs.Promised.{countsIn, Promised, by-begin, by-withdraw, by-min, by-refused, by-finish, Carried, ended, called, told, unstored, allDone, FetchesHeld, StoresHeld}
 
 -- a call of the card alone
-alone-told : (u : World) (n : ℕ) (done d : CardDone) (list : List ℕ) (whole least : ℕ) → Answered (u .card) n done d
-    → told u d list whole least ≡ alone u n done list whole least
-alone-told u n done d list whole least a =
+alone-told : (u : World) (n : ℕ) (done d : CardDone) (list : List ℕ) (many : Counts) → Answered (u .card) n done d
+    → told u d list many ≡ alone u n done list many
+alone-told u n done d list many a =
     let number = a .numbered in
-    let whole-answer = a .whole in
+    let whole = a .whole in
     λ i.
     record {
       world = record {
-        card = whole-answer i .card;
+        card = whole i .card;
         tree = u .tree;
         list = afterwards (number i) list (u .list);
-        whole = afterwards (number i) whole (u .whole);
-        least = afterwards (number i) least (u .least);
+        counts = afterwards (number i) many (u .counts);
       };
-      answer = whole-answer i .answer;
+      answer = whole i .answer;
       fetch = 0;
       store = 0;
     }
 
 -- the list does not matter where a number is given
-alone-agree : (u : World) (n : ℕ) (done : CardDone) (list list′ : List ℕ) (whole whole′ least least′ : ℕ) → (n ≡ 0 → list ≡ list′)
-    → (n ≡ 0 → whole ≡ whole′) → (n ≡ 0 → least ≡ least′) → alone u n done list whole least ≡ alone u n done list′ whole′ least′
-alone-agree u zero done list list′ whole whole′ least least′ p q r =
+alone-agree : (u : World) (n : ℕ) (done : CardDone) (list list′ : List ℕ) (many many′ : Counts) → (n ≡ 0 → list ≡ list′)
+    → (n ≡ 0 → many ≡ many′) → alone u n done list many ≡ alone u n done list′ many′
+alone-agree u zero done list list′ many many′ p q =
     let pe = p refl in
     let qe = q refl in
-    let re = r refl in
-    λ i. alone u 0 done (pe i) (qe i) (re i)
-alone-agree u (suc n) done list list′ whole whole′ least least′ p q r = refl
+    λ i. alone u 0 done (pe i) (qe i)
+alone-agree u (suc n) done list list′ many many′ p q = refl
 
-begin-told : (u : World) (w : Request) (lent after : List ℕ) (d : CardDone) → Begins (u .card) w lent after d
-    → told u d after (wholeCount u d) (leastCount u d) ≡ alone u (firstGiven (beginTable (u .card) w (length lent))) (begun (u .card) w)
-    (laid (listOf (u .card) w) lent) (length (listOf (u .card) w .whole)) (length (listOf (u .card) w .least))
-unfolding orRefused
+pub begin-told : (u : World) (w : Request) (lent after : List ℕ) (d : CardDone) → Begins (u .card) w lent after d
+    → told u d after (countsIn (d .answer)) ≡ afterBegin u w lent
+unfolding afterBegin orRefused
 begin-told u w lent after d b =
     let n = firstGiven (beginTable (u .card) w (length lent)) in
     let is : n ≡ 0 → d ≡ begun (u .card) w = λ e. b .call .whole ∙ left-done n _ _ e in
-    alone-told u n (begun (u .card) w) d after (wholeCount u d) (leastCount u d) (b .call)
-    ∙ alone-agree u n (begun (u .card) w) after _ (wholeCount u d) _ (leastCount u d) _
-    (λ e. b .places ∙ left-done n _ _ e) (λ e. ap (wholeCount u) (is e)) (λ e. ap (leastCount u) (is e))
+    alone-told u n (begun (u .card) w) d after (countsIn (d .answer)) (b .call)
+    ∙ alone-agree u n (begun (u .card) w) after _ (countsIn (d .answer)) (counts (listOf (u .card) w))
+    (λ e. b .places ∙ left-done n _ _ e) (λ e. ap (λ (x : CardDone). countsIn (x .answer)) (is e))
 
 module _ (u : World) (words ws after : List ℕ) (a : RackAnswer) (d : CardDone) (f : FetchesHeld u words a ws) (g : Finishes (u .card) ws after d) where
-  fetched-so : finishing u (answerNumber a) ws ≡ finishing u (rackNumber u words) (shown u words)
+  fetched-so : finishing u (answerNumber a) ws ≡ afterFinish u words
+  unfolding afterFinish
   fetched-so =
       let number = f .number in
       let lent = f .lent in
       λ i. finishing u (number i) (lent i)
 
-  refused-so : (numberOf (d .answer) ≡ 0 → ⊥)
-      → record { world = holding u d [] 0 0; answer = d .answer; fetch = answerNumber a; store = 0 } ≡ finishing u (answerNumber a) ws
-  refused-so some =
+  pub refused-told : (numberOf (d .answer) ≡ 0 → ⊥) → unstored u d a ≡ afterFinish u words
+  refused-told some =
       let number = g .call .numbered in
       let answer = g .call .whole in
       let given : finishNumber u ws ≡ 0 → ⊥ = λ e. some (number ∙ e) in
       let tree = sym (left-before (finishNumber u ws) (storedFrom u (wordsAfter u ws)) (u .tree) given) in
       let store = sym (left-before (finishNumber u ws) (rackNumber u (wordsAfter u ws)) 0 given) in
+      let same : unstored u d a ≡ finishing u (answerNumber a) ws =
       λ i.
       record {
         world = record {
           card = answer i .card;
           tree = tree i;
           list = afterwards (number i) [] (u .list);
-          whole = afterwards (number i) 0 (u .whole);
-          least = afterwards (number i) 0 (u .least);
+          counts = afterwards (number i) (counts noBuckets) (u .counts);
         };
         answer = answer i .answer;
         fetch = answerNumber a;
         store = store i;
-      }
+      } in
+      same ∙ fetched-so
 
-  done-so : numberOf (d .answer) ≡ 0 → (tree : List ℕ) (b : RackAnswer) → StoresHeld u after b tree
-      → record {
-        world = record { card = d .card; tree = tree; list = []; whole = 0; least = 0 };
-        answer = d .answer;
-        fetch = answerNumber a;
-        store = answerNumber b;
-      } ≡ finishing u (answerNumber a) ws
-  done-so well tree b s =
+  pub done-told : numberOf (d .answer) ≡ 0 → (tree : List ℕ) (b : RackAnswer) → StoresHeld u after b tree → allDone d a b tree ≡ afterFinish u words
+  done-told well tree b s =
       let n = finishNumber u ws in
       let answer = g .call .whole in
       let none = sym (g .call .numbered) ∙ well in
       let trees = s .lent ∙ ap (storedFrom u) (g .words) ∙ sym (left-done n (storedFrom u (wordsAfter u ws)) (u .tree) none) in
       let stores = s .number ∙ ap (rackNumber u) (g .words) ∙ sym (left-done n (rackNumber u (wordsAfter u ws)) 0 none) in
       let lists = sym (left-done n [] (u .list) none) in
-      let wholes = sym (left-done n 0 (u .whole) none) in
-      let leasts = sym (left-done n 0 (u .least) none) in
+      let many = sym (left-done n (counts noBuckets) (u .counts) none) in
+      let same : allDone d a b tree ≡ finishing u (answerNumber a) ws =
       λ i.
       record {
-        world = record { card = answer i .card; tree = trees i; list = lists i; whole = wholes i; least = leasts i };
+        world = record { card = answer i .card; tree = trees i; list = lists i; counts = many i };
         answer = answer i .answer;
         fetch = answerNumber a;
         store = stores i;
-      }
+      } in
+      same ∙ fetched-so
 
 -- what the contracts promise of a call is its step
 pub promised-step : {u : World} {c : Call} {o : Outcome} → Promised u c o → o ≡ step u c
 unfolding step
 promised-step {u} (by-begin {r = w} asked lent after d b) = begin-told u w lent after d b
-promised-step {u} (by-withdraw d a) = alone-told u _ _ d [] 0 0 a
-promised-step {u} (by-min d a) = alone-told u _ _ d (u .list) (u .whole) (u .least) a
-promised-step {u} (by-refused words ws after a d f g n) = refused-so u words ws after a d f g n ∙ fetched-so u words ws after a d f g
-promised-step {u} (by-finish words ws after tree a b d f g n s) =
-    done-so u words ws after a d f g n tree b s ∙ fetched-so u words ws after a d f g
+promised-step {u} (by-withdraw d a) = alone-told u _ _ d [] (counts noBuckets) a
+promised-step {u} (by-min d a) = alone-told u _ _ d (u .list) (u .counts) a
+promised-step {u} (by-refused words ws after a d f g n) = refused-told u words ws after a d f g n
+promised-step {u} (by-finish words ws after tree a b d f g n s) = done-told u words ws after a d f g n tree b s
 
 -- and so call after call
 pub carried-outcomes : {u : World} {cs : List Call} {os : List Outcome} → Carried u cs os → os ≡ outcomes u cs
@@ -172,8 +165,8 @@ finish-promised u words =
     let (a, fetch) = copy-answer u words in
     let (b, store) = copy-answer u after in
     let f : FetchesHeld u words a ws = record { number = fetch; lent = refl } in
-    let g : Finishes (u .card) ws after d =
-    record { call = answered-so (u .card) (finishNumber u ws) (finished (u .card) ws) (λ e. finish-done (u .card) ws e (u .card .waiting) refl); words = refl } in
+    let call = answered-so (u .card) (finishNumber u ws) (finished (u .card) ws) (λ e. finish-done (u .card) ws e (u .card .waiting) refl) in
+    let g : Finishes (u .card) ws after d = finishes (u .card) ws after d call refl in
     elim (dichotomy (eqb (numberOf (d .answer)) 0)) [
       | inl n ↦ kept (by-refused words ws after a d f g (eqb-false _ _ n))
       | inr n ↦ kept (by-finish words ws after (storedFrom u after) a b d f g (eqb-true _ _ n) (record { number = store; lent = refl }))
