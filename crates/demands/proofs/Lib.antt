@@ -10,3 +10,4 @@ pub mod Demand2
 pub mod Sample
 pub mod RoundLaws
 pub mod StandsLaws
+pub mod WrongLaws

@@ -1,14 +1,13 @@
 -- Two runs worked out by the very steps of demand 2. The first is document 01's, "Input, then whole output": an Insert and a Delete are
 -- answered, an Overflow is passed over, and a Delete of what is gone is Absent. In the second two keys are equal, a request is
 -- withdrawn, and refusals come in between. Assumes nothing.
-use Prim.Native.Nat.{ℕ, _≤_}
+use Prim.Native.Nat.{ℕ}
 use mathlib.Core.List.{List, [], _∷_, map, flatMap}
 use mathlib.Core.Path.{_≡_, refl}
 use native.Mathlib.Omega.{arith}
-use lib.ListN.{replicate}
-use Rattle.record.specs.Standing.{dummyKey, same, isDummy, known, isProper, mayStand}
-use Rattle.request.specs.declared.Request.{Request}
-use Rattle.world.specs.World.{Asked, freshWorld, insert, extract, delete, Call, begin, finish, withdraw, findMin, Outcome, afterBegin, afterFinish, step, outcomes}
+use Rattle.record.specs.Standing.{same, isDummy, known, isProper, mayStand}
+use Rattle.demands.specs.Table.{begins, ends, inserts, lines}
+use Rattle.world.specs.World.{freshWorld, extract, Call, withdraw, findMin, Outcome, afterBegin, afterFinish, step, outcomes}
 use Rattle.record.specs.Many.{every, reals, bears, stampTwice}
 use Rattle.record.specs.Order.{before, smallerBy, smallestBy}
 use Rattle.record.specs.Words.{records, wordsOf}
@@ -37,41 +36,15 @@ use Rattle.card.specs.BadCard.{badCard}
 use Rattle.card.specs.Calls.{callTable, listOf}
 use Rattle.card.specs.Finish.{leftBy, damagedBy, finishedBy}
 use Rattle.request.specs.Tables.{insertRows, extractRows, deleteRows, requestRows, waits}
-use Rattle.record.specs.declared.Leaf.{Leaf}
 use Rattle.answers.specs.Answers.{numberOf, valuesOf}
-
--- ---- the paper's lines as calls, with lists and words that are more than long enough
-abbrev leaf : ℕ → Leaf
-leaf n = record { 0 = n }
-
-abbrev asks : {r : Request} → Asked r → Call
-asks a = begin a (replicate 6 0)
-
-abbrev ends : Call
-ends = finish (replicate 41 0)
-
-abbrev inserts : (key value label first second : ℕ) → key ≤ dummyKey → Call
-inserts key value label first second word = asks (insert {value = value} {label = leaf label} {first = leaf first} {second = leaf second} word)
-
-abbrev lines : List Call
-lines =
-    inserts 7 70 0 1 2 (omega arith) ∷ ends
-    ∷ inserts 5 50 0 1 2 (omega arith) ∷ ends
-    ∷ inserts 6 60 3 1 2 (omega arith)
-    ∷ findMin
-    ∷ asks extract ∷ ends
-    ∷ asks (delete {label = leaf 0} {stamp = record { 0 = 0 }}) ∷ ends
-    ∷ asks (delete {label = leaf 0} {stamp = record { 0 = 0 }}) ∷ ends
-    ∷ asks extract
-    ∷ []
 
 -- two events with one key; an ExtractMin begun and withdrawn, a finish when none waits, and a begin when one does
 abbrev others : List Call
 others =
     inserts 5 50 0 1 2 (omega arith) ∷ ends
     ∷ inserts 5 51 3 1 2 (omega arith) ∷ ends
-    ∷ asks extract ∷ withdraw ∷ ends
-    ∷ asks extract ∷ asks extract ∷ ends
+    ∷ begins extract ∷ withdraw ∷ ends
+    ∷ begins extract ∷ begins extract ∷ ends
     ∷ findMin
     ∷ []
 

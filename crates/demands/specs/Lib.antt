@@ -6,3 +6,4 @@ pub mod Sorted
 pub mod Rounds
 pub mod Demand2
 pub mod Plainly
+pub mod Table
