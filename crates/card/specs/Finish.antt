@@ -94,7 +94,8 @@ pub record TakesLeast (k : Card) (before after : List ℕ) (answer : Done) : Typ
   pub words : numberOf (answer .answer) ≡ 0 → after ≡ wordsLeft (leastTaken k before) before
   pub found : numberOf (answer .answer) ≡ 0 → leastTaken k before .found ≡ true
 
--- the promise of a finish: its answer, every fetched word afterwards, and that an ExtractMin takes out the least record
+-- the promise of a finish: its answer, every fetched word afterwards, and that an ExtractMin takes out the least record. Every card's root
+-- has 64 places, by its type
 pub record Finishes (k : Card) (before after : List ℕ) (answer : Done) : Type 0 where
   pub call : Answered k (firstGiven (finishTable k before)) (finished k before) answer
   pub words : after ≡ afterwards (firstGiven (finishTable k before)) (wordsFor k (k .waiting) before) before

@@ -12,24 +12,27 @@ use Rattle.record.specs.declared.Record.{Record}
 use Rattle.record.specs.Many.{every}
 use Rattle.record.specs.Standing.{dummyKey, dummy, same, isDummy}
 use Rattle.path.specs.declared.sizes.Sizes.{Sizes}
+use Rattle.path.specs.Sizes.{between, treeIn, inRange}
 use Rattle.path.specs.Path.{pathBucket, siblingOf, upFrom, path}
-use Rattle.lists.specs.BucketList.{pairList}
+use Rattle.lists.specs.BucketList.{pairList, pathList}
 use Rattle.refusal.specs.Refusal.{firstGiven}
 use Rattle.root.specs.Root.{rootFull}
+use Rattle.request.specs.declared.Request.the-variants.{Extract}
 use Rattle.request.specs.declared.Waiting.{Waiting}
-use Rattle.request.specs.declared.Waiting.the-variants.{Nothing}
-use Rattle.request.specs.Tables.{insertRows, requestRows, waits}
+use Rattle.request.specs.declared.Waiting.the-variants.{Nothing, For}
+use Rattle.request.specs.Tables.{insertRows, extractRows, requestRows, waits}
 use Rattle.checks.specs.Checks.{callRows}
 use Rattle.answers.specs.declared.Answer.{Answer}
 use Rattle.tree.specs.Tree.{InTree}
-use Rattle.world.specs.World.{World, freshWorld, Call, Outcome}
-use Rattle.demands.specs.Queue.{Event, Queue, emptyQueue, Reply, referred, told, wasFound, silent, next}
+use Rattle.world.specs.World.{World, freshWorld, extract, Call, Outcome, step, outcomes}
+use Rattle.demands.specs.Queue.{Event, Queue, emptyQueue, leastEvent, takenOut, Reply, referred, told, wasFound, silent, next}
 use Rattle.demands.specs.Says.{eventOf, pendingAfter, operationOf, says}
 use Rattle.demands.specs.Refusals.{refusalOf}
 use Rattle.demands.specs.Demand2.{Stands, Refuses, Answers, Run, ended, refused, answered}
 use Rattle.demands.specs.Plainly.{inSlot, buckets}
-use Rattle.demands.specs.Table.{firstInsert, ends, tableSizes, RefusesAll, AnswersOne, DoesNothing, FinishesIdly, Breaks}
+use Rattle.demands.specs.Table.{begins, firstInsert, ends, lines, upToRemoval, tableSizes, Version, removes, RefusesAll, AnswersOne, DoesNothing, FinishesIdly, Comes, Breaks}
 use Rattle.demands.proofs.StandsLaws.{stands-plainly}
+use Rattle.demands.proofs.Demand2.{demand2-steps}
 
 -- ---- the first call of a run
 module _ (s : Sizes) (u : World) (p : Waiting) (q : Queue) where
@@ -74,7 +77,7 @@ abbrev held : Queue
 held = next emptyQueue (operationOf pending ends)
 
 -- ---- "refuses all calls"
-pub refuses-all : Breaks RefusesAll
+pub refuses-all : Breaks RefusesAll lines
 refuses-all [] v run = v
 refuses-all (o ∷ os) v run = v .0 (answers begin-none (first run) .0 .passes)
 
@@ -85,7 +88,7 @@ isSilent (told e) = false
 isSilent (wasFound b) = false
 isSilent silent = true
 
-pub one-answer : (a : Answer) → Breaks (AnswersOne a)
+pub one-answer : (a : Answer) → Breaks (AnswersOne a) lines
 one-answer a [] v run = v
 one-answer a (o ∷ []) v run = v .1
 one-answer a (o ∷ o′ ∷ os) v run =
@@ -94,7 +97,7 @@ one-answer a (o ∷ o′ ∷ os) v run =
     true≢false (ap isSilent (sym (begins .0 .same) ∙ ap says (v .0 ∙ sym (v .1 .0)) ∙ ends′ .0 .same))
 
 -- ---- "does nothing": a request that was begun must wait
-pub does-nothing : Breaks DoesNothing
+pub does-nothing : Breaks DoesNothing lines
 unfolding waits
 does-nothing [] v run = v
 does-nothing (o ∷ []) v run = v .1
@@ -110,28 +113,63 @@ past (x ∷ xs) zero m = absurd (omega arith)
 past (x ∷ xs) (suc i) m = past xs i (omega arith)
 
 -- where no event is live all slots are dummies
-all-dummies : (u : World) (p : Waiting) → Stands tableSizes u p emptyQueue → (b : Bucket) → InTree (tableSizes .h) b → (i : ℕ) → inSlot u b i ≡ dummy
-all-dummies u p h b within i =
-    let plain = stands-plainly tableSizes u p emptyQueue h in
+all-dummies : (u : World) (p : Waiting) (q : Queue) → q .events ≡ [] → Stands tableSizes u p q → (b : Bucket) → InTree (tableSizes .h) b → (i : ℕ)
+    → inSlot u b i ≡ dummy
+all-dummies u p q none h b within i =
+    let plain = stands-plainly tableSizes u p q h in
     let inside = subst (λ (s : Sizes). InTree (s .h) b) (sym (h .sizes)) within in
     elim (decLt i (length (buckets u b .slots))) [
       | yes l ↦
-          ⊎-elim (λ (d : inSlot u b i ≡ dummy). d) (λ (m : List·Memᴰ (eventOf (inSlot u b i)) []). absurd (List·Memᴰ·not-nil m))
+          ⊎-elim (λ (d : inSlot u b i ≡ dummy). d)
+          (λ (m : List·Memᴰ (eventOf (inSlot u b i)) (q .events)). absurd (List·Memᴰ·not-nil (subst (λ (es : List Event). List·Memᴰ (eventOf (inSlot u b i)) es) none m)))
           (plain .nothingElse b i (record { within = inside; place = l }))
       | no n ↦ past (buckets u b .slots) i (omega arith)
     ]
 
-pub finishes-idly : Breaks FinishesIdly
+extract-none : (root : List Record) → refusalOf tableSizes root Nothing held (begins extract) ≡ 0
+unfolding callRows requestRows extractRows waits firstGiven leastEvent pathList pathBucket siblingOf path upFrom
+extract-none root = refl
+
+removal-none : (root : List Record) → refusalOf tableSizes root (For Extract) held ends ≡ 0
+unfolding callRows waits firstGiven leastEvent pathList pathBucket siblingOf path upFrom
+removal-none root = refl
+
+-- the one event is gone from the queue
+abbrev emptied : Queue
+emptied = next held (operationOf (For Extract) ends)
+
+gone : emptied .events ≡ []
+unfolding leastEvent takenOut
+gone = refl
+
+pub finishes-idly : Breaks FinishesIdly upToRemoval
 finishes-idly [] v run = v
 finishes-idly (o ∷ []) v run = v .1
-finishes-idly (o ∷ o′ ∷ []) v run = v .1 .1
-finishes-idly (o ∷ o′ ∷ o″ ∷ os) v run =
-    let begins = answers begin-none (first run) in
-    let waiting = first (begins .1) in
-    let ends′ = answers (finish-none (o .world .card .root)) waiting in
-    let after = first (ends′ .1) .stands in
-    let (b, i, slot, is, on) = stands-plainly tableSizes (o′ .world) Nothing held after .seated _ (List·Memᴰ·head refl) in
-    let within = subst (λ (s : Sizes). InTree (s .h) b) (after .sizes) (slot .within) in
-    let empty = v .1 .0 b i ∙ all-dummies (o .world) pending (waiting .stands) b within i in
+finishes-idly (o ∷ o₂ ∷ []) v run = v .1 .1
+finishes-idly (o ∷ o₂ ∷ o₃ ∷ []) v run = v .1 .1 .1
+finishes-idly (o ∷ o₂ ∷ o₃ ∷ o₄ ∷ os) v run =
+    let begun = answers begin-none (first run) in
+    let inserted = answers (finish-none (o .world .card .root)) (first (begun .1)) in
+    let asked = answers (extract-none (o₂ .world .card .root)) (first (inserted .1)) in
+    let before = first (asked .1) .stands in
+    let removed = answers (removal-none (o₃ .world .card .root)) (first (asked .1)) in
+    let after = first (removed .1) in
+    let (b, i, slot, is, on) = stands-plainly tableSizes (o₃ .world) (For Extract) held before .seated _ (List·Memᴰ·head refl) in
+    let within = subst (λ (s : Sizes). InTree (s .h) b) (before .sizes) (slot .within) in
+    let stays = v .1 .1 .1 .0 (ap removes (before .waiting)) b i in
+    let empty = sym stays ∙ all-dummies (o₄ .world) Nothing emptied gone after b within i in
     let key : dummyKey ≡ 7 = ap (λ (r : Record). r .key) (sym empty) ∙ ap (λ (e : Event). e .key) is in
     absurd (omega arith)
+
+-- ---- and a version that keeps the contracts breaks nothing
+abbrev Keeps : Version
+Keeps u c o = o ≡ step u c
+
+steps-come : (u : World) (cs : List Call) → Comes Keeps u cs (outcomes u cs)
+unfolding outcomes
+steps-come u [] = tt
+steps-come u (c ∷ cs) = (refl, steps-come (step u c .world) cs)
+
+pub keeps-unbroken : Breaks Keeps lines → ⊥
+unfolding inRange treeIn between
+keeps-unbroken broken = broken (outcomes fresh lines) (steps-come fresh lines) (demand2-steps tableSizes refl lines)

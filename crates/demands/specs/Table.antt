@@ -1,7 +1,8 @@
--- Document 01's table, "Input, then whole output", as calls, and the wrong versions that it names: "A version that refuses all calls, gives
--- one constant answer, or does nothing breaks demand 2 with the table above. One that begins well but finishes without working breaks
--- demand 2 at the first removal." Each is proved to break it in proofs/WrongLaws.antt. Assumes nothing.
+-- The input of document 01's "Input, then whole output" as calls, and the wrong versions that it names: "A version that refuses all calls,
+-- gives one constant answer, or does nothing breaks demand 2 with the table above. One that begins well but finishes without working
+-- breaks demand 2 at the first removal." Each is proved to break it in proofs/WrongLaws.antt. Assumes nothing.
 use Prim.Native.Nat.{ℕ, _≤_}
+use mathlib.Core.Bool.{Bool, true, false}
 use mathlib.Core.List.{List, [], _∷_}
 use mathlib.Core.Path.{_≡_}
 use native.Mathlib.Omega.{arith}
@@ -12,7 +13,9 @@ use Rattle.record.specs.Standing.{dummyKey}
 use Rattle.path.specs.declared.sizes.Sizes.{Sizes}
 use Rattle.path.specs.Sizes.{sizesOf}
 use Rattle.request.specs.declared.Request.{Request}
-use Rattle.request.specs.declared.Waiting.the-variants.{Nothing}
+use Rattle.request.specs.declared.Request.the-variants.{Insert, Extract, Delete}
+use Rattle.request.specs.declared.Waiting.{Waiting}
+use Rattle.request.specs.declared.Waiting.the-variants.{Nothing, For}
 use Rattle.answers.specs.declared.Answer.{Answer}
 use Rattle.answers.specs.Answers.{numberOf}
 use Rattle.world.specs.World.{World, freshWorld, Asked, insert, extract, delete, Call, begin, finish, withdraw, findMin, Outcome}
@@ -20,7 +23,8 @@ use Rattle.demands.specs.Queue.{emptyQueue}
 use Rattle.demands.specs.Demand2.{Run}
 use Rattle.demands.specs.Plainly.{inSlot}
 
--- ---- the paper's lines as calls, with lists and words that are more than long enough
+-- ---- the paper's lines as calls, with lists and words that are long enough; the third Insert and the last ExtractMin are refused, so that
+-- there is nothing to finish
 abbrev pub leaf : ℕ → Leaf
 leaf n = record { 0 = n }
 
@@ -68,19 +72,31 @@ DoesNothing u c o = o .world ≡ u
 abbrev pub SlotsStay : World → World → Type 0
 SlotsStay u after = (b : Bucket) (i : ℕ) → inSlot after b i ≡ inSlot u b i
 
+-- whatever its Inserts do, a removal that is finished moves nothing
+abbrev pub removes : Waiting → Bool
+removes Nothing = false
+removes (For (Insert key value label first second)) = false
+removes (For Extract) = true
+removes (For (Delete label stamp)) = true
+
 abbrev pub FinishesIdly : Version
 FinishesIdly u (begin asked places) o = Unit {0}
-FinishesIdly u (finish words) o = SlotsStay u (o .world)
+FinishesIdly u (finish words) o = removes (u .card .waiting) ≡ true → SlotsStay u (o .world)
 FinishesIdly u withdraw o = Unit {0}
 FinishesIdly u findMin o = Unit {0}
 
 -- outcomes that come of these calls in such a version, each on the world that the one before it left
 abbrev pub Comes : Version → World → List Call → List Outcome → Type 0
-Comes v u [] os = Unit {0}
+Comes v u [] [] = Unit {0}
+Comes v u [] (o ∷ os) = ⊥
 Comes v u (c ∷ cs) [] = ⊥
 Comes v u (c ∷ cs) (o ∷ os) = v u c o × Comes v (o .world) cs os
 
--- on the table no outcomes of such a version are a run of demand 2
-abbrev pub Breaks : Version → Type 0
-Breaks v =
-    (os : List Outcome) → Comes v (freshWorld tableSizes) lines os → Run tableSizes (freshWorld tableSizes) Nothing emptyQueue lines os → ⊥
+-- no outcomes of these calls in such a version are a run of demand 2
+abbrev pub Breaks : Version → List Call → Type 0
+Breaks v cs =
+    (os : List Outcome) → Comes v (freshWorld tableSizes) cs os → Run tableSizes (freshWorld tableSizes) Nothing emptyQueue cs os → ⊥
+
+-- the first Insert and the first removal
+abbrev pub upToRemoval : List Call
+upToRemoval = firstInsert ∷ ends ∷ begins extract ∷ ends ∷ []
