@@ -72,13 +72,14 @@ DoesNothing u c o = o .world ≡ u
 abbrev pub SlotsStay : World → World → Type 0
 SlotsStay u after = (b : Bucket) (i : ℕ) → inSlot after b i ≡ inSlot u b i
 
--- whatever its Inserts do, a removal that is finished moves nothing
+-- whether a removal waits
 abbrev pub removes : Waiting → Bool
 removes Nothing = false
 removes (For (Insert key value label first second)) = false
 removes (For Extract) = true
 removes (For (Delete label stamp)) = true
 
+-- whatever its Inserts do, the finish of a removal moves nothing
 abbrev pub FinishesIdly : Version
 FinishesIdly u (begin asked places) o = Unit {0}
 FinishesIdly u (finish words) o = removes (u .card .waiting) ≡ true → SlotsStay u (o .world)

@@ -27,10 +27,11 @@ doneIn o = record { card = o .world .card; answer = o .answer }
 abbrev pub ending : World → Outcome
 ending v = afterFinish v wordPlaces
 
--- the first refusal: `before`, which begin gave, or else the fetch's, or the finish's, or the store's; 0 for none
+-- the first refusal of fetch, finish and store, 0 for none
 abbrev pub refusalIn : Outcome → ℕ
 refusalIn o = orElse (o .fetch) (orElse (numberOf (o .answer)) (o .store))
 
+-- and behind `before`, which begin gave
 abbrev pub firstRefusal : ℕ → World → ℕ
 firstRefusal before v = orElse before (refusalIn (ending v))
 
