@@ -1,5 +1,7 @@
 // The lines `size` and `min`: document 01, "`size h Z R T` starts afresh". For crates above. Stands on `path`, `card`, `rack`,
 // `lines` and `steps`.
+#![tactic(auto)]
+
 ghost use Rattle.std.specs.Prelude.{◌≡◌};
 ghost use Rattle.lines.specs.declared.Line.{Line};
 ghost use Rattle.steps.specs.Step.{Steps, min_of};

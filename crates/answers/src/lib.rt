@@ -1,5 +1,7 @@
 // What a call answers: document 01, "A request, step by step", and "Any refusal returns its number with every other field 0".
 // Each case has the paper's number and six values; one that does not apply is 0. Stands on `record`, `parts`, `request`.
+#![tactic(auto)]
+
 ghost use Rattle.std.specs.Prelude.{◌≡◌};
 ghost use Rattle.answers.specs.Answers.{number_of, values_of, answer_to};
 
@@ -7,7 +9,7 @@ use parts::Parts;
 use record::{Leaf, Record, Stamp};
 use request::Request;
 
-#[derive(Drop)]
+#[derive(Clone, Copy)]
 pub enum Answer {
     Started,
     Listed {

@@ -1,5 +1,7 @@
 // The lines that ask for a request: document 01, "one other than `size` before any accepted `size` .. prints `?`". For crates above. Stands on
 // `request`, `lines`, `rounds` and `steps`.
+#![tactic(auto)]
+
 ghost use Rattle.lines.specs.declared.Line.{Line};
 ghost use Rattle.steps.specs.Step.{Steps};
 

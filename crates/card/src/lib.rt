@@ -3,6 +3,8 @@
 //
 // A card is a value that goes in with a call and comes out of it. Every call answers, whatever numbers the card holds.
 // Stands on `record`, `path`, `parts`, `lists`, `refusal`, `request`, `listing`, `answers`, `checks`, `settle`, `finishes`.
+#![tactic(auto)]
+
 mod calls;
 mod finish;
 
@@ -11,7 +13,7 @@ use path::{ROOT_PLACES, Sizes};
 use record::Record;
 use request::Waiting;
 
-#[derive(Drop)]
+#[derive(Clone, Copy)]
 pub struct Card {
     pub sizes: Sizes,
     pub t: u64,
@@ -22,7 +24,7 @@ pub struct Card {
 }
 
 // What a call hands back.
-#[derive(Drop)]
+#[derive(Clone, Copy)]
 pub struct Done {
     pub card: Card,
     pub answer: Answer,

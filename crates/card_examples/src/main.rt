@@ -2,6 +2,8 @@
 // of refusals of which the paper's order takes the first, and the lists of begun requests. The file `stdout` beside
 // src/ is written by hand from document 01, so this is a test of the definitions themselves: a proof cannot show that a
 // definition is the paper's. The file `stdin` has the name of each case.
+#![tactic(auto)]
+
 mod bad;
 mod bad_waiting;
 mod calls;

@@ -4,7 +4,7 @@ use crate::cards;
 use card::Card;
 
 // N = 4, two root slots, T = 16, and what else tells the cards apart.
-#[derive(Drop)]
+#[derive(Clone, Copy)]
 pub(crate) struct Like {
     // how many of two records stand in the root's slots
     root: u64,

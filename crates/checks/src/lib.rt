@@ -2,6 +2,8 @@
 // 10, 11, 12, each where it applies". Each function gives the number of the first refusal that is met, 0 for none.
 // The root is written out as words once in a call, and every test reads those.
 // Stands on `parts`, `request`, `listing`, `judge`, `gather`, `refusal`.
+#![tactic(auto)]
+
 ghost use Rattle.std.specs.Prelude.{◌≡◌, length};
 ghost use Rattle.record.specs.Words.{records};
 ghost use Rattle.refusal.specs.Refusal.{first_given};
@@ -14,7 +16,7 @@ use refusal::{BAD_CARD, BUSY, EMPTY, IDLE, SHORT_ROOM};
 use request::{Request, Waiting, is_waiting, job_of, why_request, why_waiting};
 
 // A call on the card: FindMin; withdraw; begin, with room for so many numbers; finish, with so many words.
-#[derive(Drop)]
+#[derive(Clone, Copy)]
 pub enum Call {
     Min,
     Withdraw,

@@ -2,6 +2,8 @@
 // answers Absent and removes nothing", which is what ExtractMin does too, before the path is evicted.
 //
 // A way is a lent slice of words, four to a record. Stands on `record`, the definitions of `way` and those of `gather`.
+#![tactic(auto)]
+
 ghost use Rattle.std.specs.Prelude.{◌≡◌, length};
 ghost use Rattle.record.specs.Words.{records};
 ghost use Rattle.way.specs.Evict.{seek};

@@ -3,6 +3,8 @@
 //
 // A copy reads and writes at places of whole slices, so that every word of a lent slice is told by one equation. Stands on
 // `record`, `path` and the definitions of `lists`.
+#![tactic(auto)]
+
 ghost use Rattle.std.specs.Prelude.{◌≡◌, map, ◌+◌, ◌*◌, ◌≤◌, ◌/◌, ◌%◌, length, take, replicate};
 ghost use Rattle.record.specs.Standing.{dummy};
 ghost use Rattle.record.specs.Words.{words_of};

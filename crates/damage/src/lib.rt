@@ -4,6 +4,8 @@
 // A path's checks are lent the part of the fetched words that holds its h whole buckets, and a scratch where the least
 // record of level d's sibling stands at place d - 1. The stamps are looked at in a scratch that holds all slots together.
 // Stands on `record`, `path`, `least`, `stamps`, `sound` and `truth`.
+#![tactic(auto)]
+
 ghost use Rattle.std.specs.Prelude.{◌≡◌, ◌*◌, ◌≤◌, ◌^◌, length};
 ghost use Rattle.record.specs.Words.{records};
 ghost use Rattle.sound.specs.Fetched.{fetched_in};

@@ -2,3 +2,4 @@
 // labels of the first can be dealt again to the second's insertions so that the rack sees the same lists.
 //
 // Stands on the definitions and laws of `card`, `rack`, `world` and `demands`.
+#![tactic(auto)]

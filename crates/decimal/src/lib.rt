@@ -2,13 +2,15 @@
 //
 // A field is read if it is the one way to write some number, and a number is printed in that way; no sum wraps. Stands on
 // no other crate.
+#![tactic(auto)]
+
 ghost use Rattle.std.specs.Prelude.{◌≡◌};
 ghost use Rattle.decimal.specs.Digits.{width_of, decimal};
 ghost use Rattle.decimal.specs.Field.{leading_zero, reads};
 ghost use Rattle.decimal.specs.Promises.{Laid};
 
 // What a field says.
-#[derive(Drop)]
+#[derive(Clone, Copy)]
 pub enum Reading {
     Number(u64),
     Unreadable,

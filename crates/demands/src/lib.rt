@@ -2,3 +2,4 @@
 // filled tree is answered as a plain queue answers it, and leaves card and tree good.
 //
 // Stands on the definitions and laws of `card`, `rack`, `world` and `served`.
+#![tactic(auto)]

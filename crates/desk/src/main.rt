@@ -3,6 +3,8 @@
 //
 // What an input makes the desk print is proved in `sitting`, whatever chunks it comes in; here bytes are read and written, and
 // nothing else. Stands on `sitting`.
+#![tactic(auto)]
+
 use libc::{STDIN_FILENO, STDOUT_FILENO};
 use sitting::Sitting;
 

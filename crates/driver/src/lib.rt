@@ -5,6 +5,8 @@
 // for a refusal. A refused call leaves card and every lent slice as they were. The header for C is nwidarap.h in this crate's
 // folder. Stands on `record`, `path`, `lists`, `refusal`, `request`, `answers`, `settle`, `card`, `image`, `copies`, `rack`, `held`
 // and `told`.
+#![tactic(auto)]
+
 mod requests;
 mod store;
 

@@ -1,4 +1,6 @@
 // The fields of a line: document 01, "Fields are parted by one space". For crates above. Stands on `decimal`.
+#![tactic(auto)]
+
 ghost use Rattle.std.specs.Prelude.{◌≡◌, ◌+◌, length, drop};
 ghost use Rattle.fields.specs.Pieces.{before};
 ghost use Rattle.fields.specs.Pieces.{same_bytes};

@@ -1,6 +1,8 @@
 // The paper's sample played through card and rack, and two evictions, printed: document 01, "What the desk sees", P2 to P11. A
 // line has the paper's number and the six values of an answer, or a list, or the words of a bucket. The file `stdout` beside src/
 // is written by hand from the paper, so this is a test of the definitions themselves.
+#![tactic(auto)]
+
 mod eviction;
 mod line;
 mod rounds;

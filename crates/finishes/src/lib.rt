@@ -1,6 +1,8 @@
 // The finish of a job on the card's parts: document 01, "Finish takes the fetched words in list order." Whichever job it is, it is
 // worked out and written, or it is Damaged and nothing is changed.
 // Stands on `parts`, `request`, `listing`, `settle`, `removal`, `insertion`.
+#![tactic(auto)]
+
 ghost use Rattle.settle.specs.Settled.{Settles};
 ghost use Rattle.lists.specs.BucketList.{words_moved};
 ghost use Rattle.listing.specs.Listing.{list_for};

@@ -2,6 +2,8 @@
 //
 // A scratch is a lent slice of words, four to a record: the root's R slots, then Z for each level down to the leaf. Each
 // function that writes promises every word of the slice. Stands on `record`, `path` and the definitions of `way`.
+#![tactic(auto)]
+
 ghost use Rattle.std.specs.Prelude.{◌≡◌, ◌++◌, ◌+◌, ◌*◌, ◌-◌, ◌≤◌, length, take, drop};
 ghost use Rattle.record.specs.Words.{records};
 ghost use Rattle.gather.specs.Laid.{laid_over, SiblingsLoaded};

@@ -3,3 +3,4 @@
 // good heap is never found Damaged.
 //
 // Stands on the definitions and laws of `tree` and of the crates below it.
+#![tactic(auto)]

@@ -3,6 +3,8 @@
 //
 // No card has a kind above 3. Such words are taken as a card of height 0, so that the card's own call finds it bad, and what is
 // lent to the call stays as it was. Stands on `path`, `refusal`, `request`, `card` and `image`.
+#![tactic(auto)]
+
 ghost use Rattle.std.specs.Prelude.{◌≡◌};
 ghost use Rattle.held.specs.Held.{held_in};
 

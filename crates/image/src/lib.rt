@@ -4,6 +4,8 @@
 // Words 0 to 3 are h, Z, R and T, 4 and 5 are t and c, 6 is the kind of the waiting request and 7 to 11 are its fields; the
 // root's least record follows, then the root's 64 places. Stands on `record`, `path`, `request`, `card`, `kinds` and, for the
 // root's places, on `gather`.
+#![tactic(auto)]
+
 ghost use Rattle.std.specs.Prelude.{◌≡◌, length};
 ghost use Rattle.image.specs.Image.{card_words, head_of, image_of};
 ghost use Rattle.image.specs.Reading.{card_in, odd_kind};

@@ -2,6 +2,8 @@
 // the root, then evicts the first path, then the second." The card looks at itself and at the room first (13, 3, 11). All is
 // prepared before the first word is written.
 // Stands on `prepare`, `settle`, `writing` and what is below.
+#![tactic(auto)]
+
 ghost use Rattle.std.specs.Prelude.{◌++◌, ◌*◌, ◌≤◌};
 ghost use Rattle.path.specs.Layout.{bucket_words};
 ghost use Rattle.lists.specs.BucketList.{words_moved, pair_list};

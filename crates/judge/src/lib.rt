@@ -1,6 +1,8 @@
 // BadCard on a card's parts, all but the waiting request: document 01, "Refusal numbers". The root goes in as words, four to
 // a place, so that nothing copies 64 records. The card that a call is given and the card that a finish would send out are
 // judged by the same function. Stands on `record`, `path`, `root`, `parts`, `stamps`.
+#![tactic(auto)]
+
 ghost use Rattle.std.specs.Prelude.{◌≡◌, ◌≤◌, length};
 ghost use Rattle.record.specs.Words.{records};
 ghost use Rattle.judge.specs.BadParts.{odd_least, root_fails, bad_parts};

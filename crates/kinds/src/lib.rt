@@ -1,6 +1,8 @@
 // A waiting request as six words, its kind and five fields: document 01, "the waiting request, if any".
 //
 // Fields that a kind does not use are ignored coming in and 0 going out. Stands on `record` and `request`.
+#![tactic(auto)]
+
 ghost use Rattle.std.specs.Prelude.{◌≡◌};
 ghost use Rattle.kinds.specs.Kinds.{request_words, waiting_of};
 

@@ -1,5 +1,7 @@
 // Least records: document 01, "The least record is the smallest of its own slots and its children's least records, or
 // the dummy; a tie takes own slots first in slot order, then the lower child." Stands on `record` and the laws of `way`.
+#![tactic(auto)]
+
 ghost use Rattle.std.specs.Prelude.{◌≡◌, ◌+◌, ◌*◌, ◌≤◌, length, take, drop};
 ghost use Rattle.record.specs.declared.Rule.{Rule};
 ghost use Rattle.record.specs.Order.{smallest};

@@ -4,6 +4,8 @@
 // Each promises what the call by value promises, word for word: the second entrance equals the first. A caller needs no reference, which
 // the checker would not follow. Stands on `lent` and `loans`. A function here is proved by the law for its shape (`loans`), and must be
 // written as the law has it.
+#![tactic(auto)]
+
 ghost use Rattle.refusal.specs.Refusal.{first_given};
 ghost use Rattle.path.specs.Sizes.{sizes_of};
 ghost use Rattle.card.specs.Answers.{Answered};

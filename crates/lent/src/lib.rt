@@ -5,6 +5,8 @@
 //
 // The checker does not follow a reference to a struct. A function here is proved by the law for its shape (`shapes`), and must be
 // written as the law has it: `let done = card.CALL(..); *card = done.card; done.answer`.
+#![tactic(auto)]
+
 ghost use Rattle.refusal.specs.Refusal.{first_given};
 ghost use Rattle.path.specs.Sizes.{sizes_of};
 ghost use Rattle.card.specs.Answers.{Answered};

@@ -2,6 +2,8 @@
 // whole output". The file `stdout` beside src/ is the desk's, so the two entrances are seen to say the same.
 //
 // Before the first accepted start the card is the one that a refused start hands back. Stands on `lender`, `rack` and `replies`.
+#![tactic(auto)]
+
 mod requests;
 
 use answers::Answer;

@@ -1,6 +1,8 @@
 // What lines say: reads lines, and prints for each `?`, or the number of its kind and its numbers. The bytes come in chunks of
 // seven, so that most lines straddle chunks. The file `stdout` beside src/ is written by hand from document 01, so this is a test
 // of the definitions themselves.
+#![tactic(auto)]
+
 ghost use Rattle.std.specs.Prelude.{◌≤◌, length};
 
 use libc::{STDIN_FILENO, STDOUT_FILENO};

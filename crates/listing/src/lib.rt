@@ -1,6 +1,8 @@
 // The bucket list of a job: document 01, "A request, step by step". It is named in lent places; and whether places and
 // fetched words are enough for it is told by the height alone.
 // Stands on `path`, `lists`, `request`.
+#![tactic(auto)]
+
 ghost use Rattle.std.specs.Prelude.{◌≡◌, ◌≤◌, ltb, length};
 ghost use Rattle.lists.specs.BucketList.{Names, counts, fetched_for};
 ghost use Rattle.listing.specs.Listing.{list_for, Listable, places_asked, words_asked};

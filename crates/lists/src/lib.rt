@@ -2,6 +2,8 @@
 //
 // The two lists are named after their shape: a pair of paths (Insert) and one path (ExtractMin, Delete). Stands on `record`
 // and `path`.
+#![tactic(auto)]
+
 ghost use Rattle.std.specs.Prelude.{◌≡◌, map, ◌≤◌, ◌<◌, ◌^◌, length};
 ghost use Rattle.path.specs.Path.{path, sibling_of, number};
 ghost use Rattle.lists.specs.BucketList.{pair_list, path_list, pair_counts, path_counts, numbers, laid_from, Names, Room, moved};
@@ -10,7 +12,7 @@ use path::{Sizes, sibling};
 use record::{Leaf, RECORD_WORDS};
 
 // How many buckets of a list are whole, and how many of the numbers after them are for the least record only.
-#[derive(Drop)]
+#[derive(Clone, Copy)]
 pub struct Listed {
     pub whole: usize,
     pub least: usize,

@@ -2,3 +2,4 @@
 //
 // The checker does not follow a reference to a struct. A law here follows it once for all functions of a shape, whatever they promise.
 // Stands on `card` and `shapes`.
+#![tactic(auto)]

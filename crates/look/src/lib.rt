@@ -1,6 +1,8 @@
 // The look at what a finish fetched: document 01, "Refusal numbers", Damaged, its first three clauses. What card and fetched
 // words show is laid in the scratches of the work and looked at; no word is written.
 // Stands on `settle`, `shown`, `damage` and what is below.
+#![tactic(auto)]
+
 ghost use Rattle.look.specs.Look.{PathLookRoom, PathLooks, PairLookRoom, PairLooks};
 
 use parts::Parts;
@@ -9,7 +11,7 @@ use record::{Leaf, RECORD_WORDS, Record};
 use settle::{SIBLINGS_MOST, WAYS_MOST, path_words, way_words};
 
 // What a look tells: the words moved for the siblings, and whether what was fetched is Damaged.
-#[derive(Drop)]
+#[derive(Clone, Copy)]
 pub struct Looked {
     pub moved: u64,
     pub damaged: bool,

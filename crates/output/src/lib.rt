@@ -2,6 +2,8 @@
 // piece. Document 01, "Input, then whole output".
 //
 // Theorems, and two small functions for crates above. Stands on the definitions and laws of `lines`, `frames`, `steps` and `replies`.
+#![tactic(auto)]
+
 ghost use Rattle.std.specs.Prelude.{◌≡◌, ◌&&◌, ◌++◌, ◌-◌, ltb, leb, length, take, replicate};
 ghost use Rattle.output.specs.Room.{reply_most};
 

@@ -1,5 +1,7 @@
 // Insert's work: document 01, "Insert puts the record, with stamp t, into the lowest dummy slot of the root, then evicts the
 // first path, then the second." Nothing is written but scratches. Stands on `record`, `path`, `root`, `gather` and `work`.
+#![tactic(auto)]
+
 mod seating;
 
 ghost use Rattle.std.specs.Prelude.{◌*◌};

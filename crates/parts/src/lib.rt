@@ -3,13 +3,15 @@
 //
 // They go as one value, so that a function which only hands them on does not look inside. The root goes beside them: it is 64
 // records, and no call copies it more often than it must. Stands on `record` and `path`.
+#![tactic(auto)]
+
 ghost use Rattle.std.specs.Prelude.{◌≡◌, ◌≤◌};
 ghost use Rattle.parts.specs.Parts.{rule_of};
 
 use path::{Sizes, leaves};
 use record::{Record, Rule, Stamp};
 
-#[derive(Drop)]
+#[derive(Clone, Copy)]
 pub struct Parts {
     pub sizes: Sizes,
     pub t: u64,

@@ -1,6 +1,8 @@
 // An Insert worked out: document 01, "puts the record, with stamp t, into the lowest dummy slot of the root, then evicts the
 // first path, then the second", all in scratches, and the card that would come out is judged. No word is written here.
 // Stands on `look`, `settle`, `pair` and what is below.
+#![tactic(auto)]
+
 ghost use Rattle.std.specs.Prelude.{◌≡◌, ◌*◌, length};
 ghost use Rattle.path.specs.Layout.{bucket_words};
 ghost use Rattle.settle.specs.Room.{InsertionRoom};

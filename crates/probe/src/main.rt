@@ -3,6 +3,8 @@
 //
 // Nothing here is promised but that it is safe and ends: no contract can say what is read or written. Stands on
 // `image`, `told`, `driver`, `io` and `libc`.
+#![tactic(auto)]
+
 mod frame;
 mod play;
 mod words;

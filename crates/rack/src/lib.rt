@@ -4,6 +4,8 @@
 // Every call tests all that it was given before it writes the first word. A bucket comes in as a plain number, as the
 // paper's rack is given one: until it has been tested it may be no bucket at all. Stands on `record`, `path`, `refusal` and
 // `copies`.
+#![tactic(auto)]
+
 ghost use Rattle.std.specs.Prelude.{◌≡◌};
 ghost use Rattle.rack.specs.Answers.{answer_number, is_done};
 ghost use Rattle.rack.specs.Promises.{Fills, Fetches, Stores};
@@ -13,7 +15,7 @@ use refusal::{BAD_BUCKET, BAD_SIZE, SHORT_ROOM};
 mod refusing;
 
 // What a call answers; a refusal by its name in the paper's table.
-#[derive(Drop)]
+#[derive(Clone, Copy)]
 pub enum Answer {
     Done,
     BadSize,

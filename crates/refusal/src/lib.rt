@@ -1,5 +1,6 @@
 // The refusal numbers: document 01, "Refusal numbers". No call gives 0 as a refusal: it stands for none.
 // Stands on no other crate.
+#![tactic(auto)]
 
 // a size is outside its range
 pub const BAD_SIZE: u64 = 1;

@@ -3,6 +3,8 @@
 // nothing. Then the path is evicted." The card looks at itself and at the room first (13, 3, 11).
 // All is prepared before the first word is written.
 // Stands on `look`, `settle`, `work`, `writing` and what is below.
+#![tactic(auto)]
+
 ghost use Rattle.std.specs.Prelude.{◌≡◌, cond, ◌*◌, ◌-◌, ◌≤◌, length};
 ghost use Rattle.path.specs.Layout.{bucket_words};
 ghost use Rattle.clearing.specs.Removal.{named};

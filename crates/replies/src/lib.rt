@@ -1,12 +1,14 @@
 // A line of bytes in, the desk's reply in bytes out: document 01, "What the desk sees". Stands on `decimal`, `lines`, `steps`,
 // `turns`, `frames` and `said`.
+#![tactic(auto)]
+
 ghost use Rattle.decimal.specs.Promises.{Laid};
 ghost use Rattle.replies.specs.Reply.{bytes_of, Prints};
 
 use steps::{Desk, Reply};
 
 // The desk afterwards, and how many bytes were printed.
-#[derive(Drop)]
+#[derive(Clone, Copy)]
 pub struct Printed {
     pub desk: Desk,
     pub bytes: usize,

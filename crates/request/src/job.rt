@@ -9,7 +9,7 @@ use record::{Leaf, Record, Stamp};
 
 // One path, and the label and stamp of the record to take out; or two paths, and the record to put in. The leaf of the path stands
 // apart from the record's label.
-#[derive(Drop)]
+#[derive(Clone, Copy)]
 pub enum Job {
     Path {
         leaf: Leaf,

@@ -1,6 +1,8 @@
 // A request: document 01, "A request, step by step". What is asked, what waits on a card, when a request is refused with a number
 // from 4 to 10 ("Refusal numbers"), and what it asks of the tree (job.rt). The root goes in as words, four to a place, so that
 // nothing copies 64 records. Stands on `record`, `path`, `parts`, `refusal`, `root`.
+#![tactic(auto)]
+
 mod job;
 
 ghost use Rattle.std.specs.Prelude.{◌≡◌, ◌≤◌};
@@ -14,7 +16,7 @@ use path::leaves;
 use record::{DUMMY_KEY, Leaf, Stamp};
 use refusal::{BAD_KEY, BAD_LEAF, BAD_STAMP, EMPTY, FULL, OVERFLOW, SPENT};
 
-#[derive(Drop)]
+#[derive(Clone, Copy)]
 pub enum Request {
     Insert {
         key: u64,
@@ -31,7 +33,7 @@ pub enum Request {
 }
 
 // What waits on a card.
-#[derive(Drop)]
+#[derive(Clone, Copy)]
 pub enum Waiting {
     Nothing,
     For(Request),

@@ -1,5 +1,7 @@
 // The root's slots, as a lent slice of words, four to a slot: what BadCard and Overflow ask of them (document 01,
 // "Refusal numbers"), and the slot that an Insert takes. Stands on `record` and the definitions of `way`.
+#![tactic(auto)]
+
 ghost use Rattle.std.specs.Prelude.{◌≡◌};
 ghost use Rattle.record.specs.Standing.{is_dummy};
 ghost use Rattle.record.specs.Many.{every};

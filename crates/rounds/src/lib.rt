@@ -4,6 +4,8 @@
 // Whatever card and tree are given, a request is played to its end or refused. The first step that refuses decides, and
 // then card and tree are as before: the card that was begun is dropped, so the request is not left waiting. Stands on `lists`, `request`,
 // `answers`, `card`, `rack`, and on the definitions and laws of `world`.
+#![tactic(auto)]
+
 ghost use Rattle.rounds.specs.Round.{Plays};
 
 mod answer;

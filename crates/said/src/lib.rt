@@ -1,5 +1,7 @@
 // An answer of the card, printed: document 01, "Otherwise: 0 for size; 0, label, stamp, words for insert; ..". Stands on `record`,
 // `answers`, `decimal` and `frames`.
+#![tactic(auto)]
+
 ghost use Rattle.std.specs.Prelude.{◌≡◌, [], ◌∷◌, cond};
 ghost use Rattle.decimal.specs.Promises.{Laid};
 ghost use Rattle.frames.specs.Answer.{answer_line};

@@ -3,3 +3,4 @@
 // BadCard, and no finish finds anything Damaged.
 //
 // Stands on the definitions and laws of `card`, `world`, `good` and of the crates below them.
+#![tactic(auto)]

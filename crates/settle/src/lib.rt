@@ -2,6 +2,8 @@
 // out. Each finish looks at what was fetched, works all out in scratches, judges, and only then writes a word: document 01,
 // "card and lent slices are as before" where it is Damaged. Stands on `judge` and `gather`, and on the definitions of `work`
 // and `damage`.
+#![tactic(auto)]
+
 ghost use Rattle.std.specs.Prelude.{◌≡◌, ◌+◌, ◌*◌, ◌≤◌};
 ghost use Rattle.path.specs.Layout.{bucket_words};
 ghost use Rattle.judge.specs.BadParts.{bad_parts};
@@ -14,7 +16,7 @@ use record::{RECORD_WORDS, Record};
 
 // What a finish makes of the card's parts, whether a record was found to remove, and the words moved; or, where it is
 // Damaged, the parts as they came.
-#[derive(Drop)]
+#[derive(Clone, Copy)]
 pub struct Settled {
     pub root: [Record; ROOT_PLACES],
     pub least: Record,

@@ -3,3 +3,4 @@
 //
 // The checker does not follow a reference to a struct. A law here follows it once for all functions of a shape, whatever they promise.
 // Stands on `request` and `card`.
+#![tactic(auto)]

@@ -1,5 +1,7 @@
 // What card and fetched words show, in scratches: document 01, "Finish takes the fetched words in list order." Each
 // function answers the words moved for the siblings that it looked at. Stands on `record`, `path` and `gather`.
+#![tactic(auto)]
+
 ghost use Rattle.std.specs.Prelude.{◌≡◌};
 ghost use Rattle.record.specs.Words.{records};
 ghost use Rattle.gather.specs.Shown.{way_shown};

@@ -1,6 +1,8 @@
 // A sitting at the desk, from the first byte of its input to the last: document 01, "What the desk sees". Bytes come in chunks
 // of any lengths, and every byte that is to be printed goes out. Stands on `card`, `frames`, `steps`, `replies` and
 // `output`.
+#![tactic(auto)]
+
 mod ends;
 mod feeding;
 
@@ -12,7 +14,7 @@ use steps::Desk;
 pub const LINE_HELD: usize = 129;
 
 // The desk between two chunks: `held` bytes of an open line stand at the head of `line`.
-#[derive(Drop)]
+#[derive(Clone, Copy)]
 pub struct Sitting {
     pub desk: Desk,
     pub line: [u8; LINE_HELD],
@@ -20,7 +22,7 @@ pub struct Sitting {
 }
 
 // What a chunk came to: how many of its bytes were taken, and how many were printed.
-#[derive(Drop)]
+#[derive(Clone, Copy)]
 pub struct Fed {
     pub sitting: Sitting,
     pub taken: usize,

@@ -4,6 +4,8 @@
 // The checks are lent the part of the fetched words that holds the path's h whole buckets, and a scratch where the least
 // record of level d's sibling stands at place d - 1. The rule is the tree's: its `leaves` is N. Stands on `record`, `path` and the
 // definitions of `gather`.
+#![tactic(auto)]
+
 ghost use Rattle.std.specs.Prelude.{◌≡◌, ◌*◌, ◌≤◌, ◌<◌, ◌^◌, length};
 ghost use Rattle.record.specs.Many.{every};
 ghost use Rattle.record.specs.Words.{records};

@@ -1,5 +1,7 @@
 // Stamps that stand twice: document 01, "two slots that are not dummies, root included, share a stamp". The slots are lent as
 // words, four to a record. Stands on `record`.
+#![tactic(auto)]
+
 ghost use Rattle.std.specs.Prelude.{◌≡◌, not, drop};
 ghost use Rattle.record.specs.Words.{records};
 ghost use Rattle.record.specs.Many.{every, bears, stamp_twice};

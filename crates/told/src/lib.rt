@@ -3,6 +3,8 @@
 //
 // A call returns its number and leaves six words of answer where the driver lent them, all 0 for a refusal. The card's words are
 // written unless the call is refused. Stands on `refusal`, `answers`, `card`, `rack` and `image`.
+#![tactic(auto)]
+
 ghost use Rattle.answers.specs.Answers.{number_of, values_of};
 ghost use Rattle.rack.specs.Answers.{answer_number};
 ghost use Rattle.told.specs.Told.{Said, Settled, Zeroed};

@@ -1,6 +1,8 @@
 // Clause 3 of Damaged, below the root: "the least record of a path bucket .. isn't the one its slots and children give".
 // Equal in all four numbers: the order tells key and stamp alone. The children's least records are the fetched ones. Stands on
 // `record`, `path`, `least` and the definitions of `sound`.
+#![tactic(auto)]
+
 ghost use Rattle.std.specs.Prelude.{◌≡◌, ◌*◌, ◌≤◌, length};
 ghost use Rattle.record.specs.declared.Rule.{Rule};
 ghost use Rattle.record.specs.Order.{smallest};

@@ -1,5 +1,7 @@
 // What the desk does with a line, whatever it says: document 01, "What the desk sees". A line and a state in; a state, a reply and the tree's
 // words out. Stands on `lines`, `steps`, `asked` and `afresh`.
+#![tactic(auto)]
+
 ghost use Rattle.steps.specs.Step.{Steps};
 
 use lines::Line;

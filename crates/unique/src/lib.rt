@@ -3,3 +3,4 @@
 //
 // One definition and one law for all; then each public function, by its own contract as it stands in the source. Stands on every
 // crate that has one.
+#![tactic(auto)]

@@ -5,6 +5,8 @@
 // A way is a lent slice of words, four to a record and exactly as long as the way: the root's slots, then those of each
 // level down to the leaf. Nothing stands behind the last slot, so what is promised of the records is promised of every
 // word (proofs/WayLaws.antt). Stands on `record` and `path`.
+#![tactic(auto)]
+
 ghost use Rattle.std.specs.Prelude.{◌≡◌, ◌+◌, ◌*◌, ◌≤◌, ◌<◌, length};
 ghost use Rattle.record.specs.Words.{records};
 ghost use Rattle.way.specs.Evict.{seek, fits, pull, pulls, evict};

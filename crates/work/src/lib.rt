@@ -1,6 +1,8 @@
 // The work of a finish on scratches: document 01, "It works, then each bucket's part of the fetched words is written where
 // it stands". Nothing is written here but scratches, so that all is known before the first word changes.
 // Stands on `record`, `path`, `way`, `least`, `gather`, `clearing`, `mend`.
+#![tactic(auto)]
+
 mod removal;
 
 ghost use Rattle.record.specs.declared.Rule.{Rule};

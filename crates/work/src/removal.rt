@@ -12,7 +12,7 @@ use path::{ROOT_PLACES, Sizes};
 use record::{Leaf, Record, Stamp};
 
 // What a removal makes of the card's root, and whether the record was there.
-#[derive(Drop)]
+#[derive(Clone, Copy)]
 pub struct Removed {
     pub root: [Record; ROOT_PLACES],
     pub least: Record,

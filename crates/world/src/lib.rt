@@ -2,3 +2,4 @@
 // makes of them is defined here once, for demand 2, demand 3 and the desk; the contracts leave this outcome and no other.
 //
 // Stands on the definitions and laws of `card` and `rack`.
+#![tactic(auto)]

@@ -1,5 +1,7 @@
 // The stores of a finish: document 01, "each bucket's part of the fetched words is written where it stands; sibling
 // words, and any words past the list, stay". Stands on `record` and `path`.
+#![tactic(auto)]
+
 ghost use Rattle.std.specs.Prelude.{◌≡◌, length};
 ghost use Rattle.writing.specs.Stored.{StoreRoom, Stored};
 

@@ -1,0 +1,18 @@
+-- `copy_words` meets its contract. The loop: `Pasting`. Assumes nothing.
+use borrow.Author.Rules.{rules}
+use Prim.Native.Nat.{◌-◌}
+use Rattle.record.proofs.Pasting.{Pasting, pasting-starts, pasting-turns, pasting-ends}
+use Rattle.record.proofs.copying.copy_words.Goals as goal
+
+pub loop-i-init : goal.loop-i-init
+loop-i-init c = pasting-starts _ _ _ _ _
+
+pub loop-i-preserved : goal.loop-i-preserved
+loop-i-preserved c =
+    pasting-turns _ _ _ _ _ _ _ c.loop-i.invariant c.loop-i-test.true c.requires.0 c.requires.1
+
+pub shape_of-to : goal.shape_of-to
+shape_of-to c = c.loop-i.invariant.room
+
+pub returns : goal.returns
+returns c = pasting-ends _ _ _ _ _ _ _ c.loop-i.invariant c.loop-i-test.false

@@ -1,0 +1,11 @@
+-- `copy_words` meets its contract. The loop: `Pasting`. Assumes nothing.
+use borrow.Author.Rules.{rules}
+use Prim.Native.Nat.{◌-◌}
+use Rattle.record.proofs.Pasting.{Pasting, pasting-starts, pasting-turns, pasting-ends}
+use Rattle.record.proofs.copying.copy_words.Given as goal
+
+abbrev pub invariant-loop-i : goal.invariant-loop-i
+invariant-loop-i l = Pasting l.initial.to l.from l.at l.start l.n l.to l.i
+
+abbrev pub decreases-loop-i : goal.decreases-loop-i
+decreases-loop-i l = l.n - l.i
