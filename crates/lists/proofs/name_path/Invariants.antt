@@ -1,0 +1,13 @@
+use borrow.Author.Rules.{rules}
+use native.Mathlib.Omega.{arith}
+use Prim.Native.Nat.{suc, ◌-◌}
+use mathlib.Core.Path.{ap}
+use Rattle.path.specs.Path.{path_bucket, number}
+use Rattle.lists.proofs.Naming.{Naming, naming-starts, naming-fits, naming-turns, naming-ends, path-named}
+use Rattle.lists.proofs.name_path.Given as goal
+
+abbrev pub invariant-loop-level : goal.invariant-loop-level
+invariant-loop-level l = Naming (λ d. number (path_bucket l.sizes.h l.leaf d)) l.from l.at (suc l.sizes.h) l.initial.list l.list l.i l.level
+
+abbrev pub decreases-loop-level : goal.decreases-loop-level
+decreases-loop-level l = suc l.sizes.h - l.level
