@@ -18,9 +18,8 @@ fill_level-requires c =
 
 pub loop-level-preserved : goal.loop-level-preserved
 loop-level-preserved c =
-    let turn = c in
     let filled = c.fill_level in
-    evicting-turns _ _ _ _ _ _ _ _ turn.loop-level.invariant _ turn.loop-level-test.true filled.auto.0 filled.ensures
+    evicting-turns _ _ _ _ _ _ _ _ c.loop-level.invariant _ c.loop-level-test.true filled.auto.w filled.ensures
 
 pub shape_of-w : goal.shape_of-w
 shape_of-w c = c.loop-level.invariant.room

@@ -10,9 +10,8 @@ loop-k-init c = filling-starts _ _ _ _
 
 pub loop-k-preserved : goal.loop-k-preserved
 loop-k-preserved c =
-    let turn = c in
     let pulled = c.pull in
-    filling-turns _ _ _ _ _ _ turn.loop-k.invariant _ turn.loop-k-test.true pulled.auto.0 pulled.ensures
+    filling-turns _ _ _ _ _ _ c.loop-k.invariant _ c.loop-k-test.true pulled.auto.w pulled.ensures
 
 pub shape_of-w : goal.shape_of-w
 shape_of-w c = c.loop-k.invariant.room

@@ -9,32 +9,32 @@ use Rattle.record.specs.Words.{records}
 use Rattle.way.specs.Evict.{seek}
 use Rattle.way.proofs.EvictLaws.{seek_from, seek-starts, seek-turns, seek_found, seek-ends, agrees, agrees-dummy, agrees-own, agrees-other, agrees-fits}
 use Rattle.way.proofs.first_fit.Goals as goal
+use Rattle.way.proofs.first_fit.Goals.{then-found-below, else-found-below}
 
 pub loop-i-init : goal.loop-i-init
 loop-i-init c = seek-starts _ _ _
 
 pub returns-then-not-is_dummy : goal.returns-then-not-is_dummy
 returns-then-not-is_dummy c =
-    let turn = c in
-    let s = turn.args in
+    let s = c.args in
     let x = c.read-found in
     let real = sym c.is_dummy.ensures ∙ c.if-not-is_dummy.true in
     let own = rw x.ensures at (agrees-own _ _ x.result real c.if-found-below.true) in
-    let found = seek_found _ s.lo s.w.now turn.loop-i.i (omega arith) (omega arith) own in
-    rw (agrees-fits s.sizes.h s.leaf s.level (omega arith)) at (sym (turn.loop-i.invariant ∙ found))
+    let found = seek_found _ s.lo s.w.now c.loop-i.i (omega arith) (omega arith) own in
+    rw (agrees-fits s.sizes.h s.leaf s.level (omega arith)) at (sym (c.loop-i.invariant ∙ found))
 
 pub loop-i-preserved : goal.loop-i-preserved
 loop-i-preserved c =
-    let turn = c in
-    let s = turn.args in
+    let s = c.args in
     let x = c.read-found in
     let below = s.sizes.h - s.level in
     let want = s.leaf.0 / 2 ^ below in
-    let turns = seek-turns _ s.lo s.w.now turn.loop-i.i (omega arith) (omega arith) in
-    turn.loop-i.invariant
-    ∙ ⊎_elim
-    (λ w. turns (rw x.ensures at (agrees-dummy below want x.result (sym w.1.ensures ∙ not-false _ w.2.left))))
-    (λ w. turns (rw x.ensures at (agrees-other _ _ x.result w.left))) c.if-found-below.branch
+    let turns = seek-turns _ s.lo s.w.now c.loop-i.i (omega arith) (omega arith) in
+    c.loop-i.invariant
+    ∙ elim c.if-found-below.branch [
+      | then-found-below w ↦ turns (rw x.ensures at (agrees-dummy below want x.result (sym w.is_dummy.ensures ∙ w.if-not-is_dummy.false)))
+      | else-found-below w ↦ turns (rw x.ensures at (agrees-other _ _ x.result w.if-found-below.false))
+    ]
 
 pub returns : goal.returns
 returns c =

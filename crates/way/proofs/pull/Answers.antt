@@ -15,15 +15,12 @@ returns-then-not-is_dummy c =
 
 pub returns-then-from-lo : goal.returns-then-from-lo
 returns-then-from-lo c =
-    let test = c in
-    let first = test in
-    let start = first in
-    let s = start.args in
-    let found = test.first_fit-from in
-    let void = rw first.read.ensures at (sym first.is_dummy.ensures ∙ first.if-not-is_dummy.false) in
+    let s = c.args in
+    let found = c.first_fit-from in
+    let void = rw c.read.ensures at (sym c.is_dummy.ensures ∙ c.if-not-is_dummy.false) in
     ap records c.write-then-from-lo.ensures
     ∙ rw (c.write.ensures, c.read-found.ensures)
-    (pull-moves _ s.lo s.place s.w.now start.requires.0.1 found.result void found.ensures test.if-from-lo.true start.requires.0.0)
+    (pull-moves _ s.lo s.place s.w.now c.requires.lo_in_bounds.1 found.result void found.ensures c.if-from-lo.true c.requires.lo_in_bounds.0)
 
 pub returns-else-from-lo : goal.returns-else-from-lo
 returns-else-from-lo c =
