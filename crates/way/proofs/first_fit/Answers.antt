@@ -9,7 +9,7 @@ use Rattle.record.specs.Words.{records}
 use Rattle.way.specs.Evict.{seek}
 use Rattle.way.proofs.EvictLaws.{seek_from, seek-starts, seek-turns, seek_found, seek-ends, agrees, agrees-dummy, agrees-own, agrees-other, agrees-fits}
 use Rattle.way.proofs.first_fit.Goals as goal
-use Rattle.way.proofs.first_fit.Goals.{then-found-below, else-found-below}
+use Rattle.way.proofs.first_fit.Goals.{then-found-below+else-not-is_dummy, else-found-below}
 
 pub loop-i-init : goal.loop-i-init
 loop-i-init c = seek-starts _ _ _
@@ -32,7 +32,7 @@ loop-i-preserved c =
     let turns = seek-turns _ s.lo s.w.now c.loop-i.i (omega arith) (omega arith) in
     c.loop-i.invariant
     ∙ elim c.if-found-below.branch [
-      | then-found-below w ↦ turns (rw x.ensures at (agrees-dummy below want x.result (sym w.is_dummy.ensures ∙ w.if-not-is_dummy.false)))
+      | then-found-below+else-not-is_dummy w ↦ turns (rw x.ensures at (agrees-dummy below want x.result (sym w.is_dummy.ensures ∙ w.if-not-is_dummy.false)))
       | else-found-below w ↦ turns (rw x.ensures at (agrees-other _ _ x.result w.if-found-below.false))
     ]
 

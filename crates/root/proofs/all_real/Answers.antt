@@ -1,0 +1,7 @@
+-- `all_real` meets its contract. Assumes nothing.
+use borrow.Author.Rules.{rules}
+use Rattle.root.proofs.Slots.{full-slots}
+use Rattle.root.proofs.all_real.Goals as goal
+
+pub returns : goal.returns
+returns c = rw c.lowest_dummy.ensures (full-slots _ _)

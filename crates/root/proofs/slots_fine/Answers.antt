@@ -1,0 +1,48 @@
+use borrow.Author.Rules.{rules}
+use native.Mathlib.Omega.{arith}
+use Prim.Native.Nat.{◌-◌}
+use mathlib.Core.Logic.{⊎_elim}
+use mathlib.Core.Path.{sym, ap, ◌∙◌}
+use borrow.Author.Tests.{not-true, not-false}
+use Rattle.record.specs.Standing.{is_dummy, is_proper}
+use Rattle.record.specs.Order.{before}
+use Rattle.root.proofs.Slots.{Fine, fine-starts, fine-dummy, fine-record, strange-place, earlier-place, fine-ends}
+use Rattle.root.proofs.slots_fine.Goals as goal
+
+pub loop-i-init : goal.loop-i-init
+loop-i-init c = fine-starts c.args.slots.now _ _
+
+pub returns-then-not-is_proper : goal.returns-then-not-is_proper
+returns-then-not-is_proper c =
+    let s = c.args in
+    let e = ap is_dummy (sym c.read-x.ensures) ∙ sym c.is_dummy.ensures ∙ c.if-not-is_dummy.true in
+    let f = ap (is_proper s.rule) (sym c.read-x.ensures) ∙ sym c.is_proper.ensures ∙ c.if-not-is_proper.true in
+    sym (strange-place s.slots.now s.rule s.least c.loop-i.i c.loop-i.count (omega arith) s.live e f)
+
+pub returns-then-not-no_later : goal.returns-then-not-no_later
+returns-then-not-no_later c =
+    let s = c.args in
+    let e = ap is_dummy (sym c.read-x.ensures) ∙ sym c.is_dummy.ensures ∙ c.if-not-is_dummy.true in
+    let f = ap (before s.rule s.least) (sym c.read-x.ensures) ∙ sym (c.no_later.ensures s.rule) ∙ c.if-not-no_later.true in
+    sym (earlier-place s.slots.now s.rule s.least c.loop-i.i c.loop-i.count (omega arith) s.live e f)
+
+pub overflow_add-count : goal.overflow_add-count
+overflow_add-count c =
+    omega (arith, c.loop-i.invariant.few, c.loop-i.invariant.place)
+
+pub loop-i-preserved : goal.loop-i-preserved
+loop-i-preserved c =
+    let s = c.args in
+    let d = ap is_dummy (sym c.read-x.ensures) ∙ sym c.is_dummy.ensures in
+    ⊎_elim
+    (λ w.
+    let p = ap (is_proper s.rule) (sym c.read-x.ensures) ∙ sym w.1.ensures ∙ not-false _ w.2.left in
+    let l = ap (before s.rule s.least) (sym c.read-x.ensures) ∙ sym (w.3.ensures s.rule) ∙ not-false _ w.4.left in
+    rw w.5 (fine-record s.slots.now s.rule s.least c.loop-i.i c.loop-i.count (omega arith) c.loop-i.invariant (d ∙ not-true _ w.0.taken) p l))
+    (λ w. rw w.1 (fine-dummy s.slots.now s.rule s.least c.loop-i.i c.loop-i.count (omega arith) c.loop-i.invariant (d ∙ not-false _ w.0.left)))
+    c.if-not-is_dummy.branch
+
+pub returns : goal.returns
+returns c =
+    let s = c.args in
+    sym (fine-ends s.slots.now s.rule s.least c.loop-i.i c.loop-i.count s.live c.loop-i.invariant (omega arith))
