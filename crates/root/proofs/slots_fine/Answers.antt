@@ -8,6 +8,7 @@ use Rattle.record.specs.Standing.{is_dummy, is_proper}
 use Rattle.record.specs.Order.{before}
 use Rattle.root.proofs.Slots.{Fine, fine-starts, fine-dummy, fine-record, strange-place, earlier-place, fine-ends}
 use Rattle.root.proofs.slots_fine.Goals as goal
+use Rattle.root.proofs.slots_fine.Goals.{then-not-is_dummy+else-not-is_proper+else-not-no_later, else-not-is_dummy}
 
 pub loop-i-init : goal.loop-i-init
 loop-i-init c = fine-starts c.args.slots.now _ _
@@ -34,13 +35,14 @@ pub loop-i-preserved : goal.loop-i-preserved
 loop-i-preserved c =
     let s = c.args in
     let d = ap is_dummy (sym c.read-x.ensures) ∙ sym c.is_dummy.ensures in
-    ⊎_elim
-    (λ w.
-    let p = ap (is_proper s.rule) (sym c.read-x.ensures) ∙ sym w.1.ensures ∙ not-false _ w.2.left in
-    let l = ap (before s.rule s.least) (sym c.read-x.ensures) ∙ sym (w.3.ensures s.rule) ∙ not-false _ w.4.left in
-    rw w.5 (fine-record s.slots.now s.rule s.least c.loop-i.i c.loop-i.count (omega arith) c.loop-i.invariant (d ∙ not-true _ w.0.taken) p l))
-    (λ w. rw w.1 (fine-dummy s.slots.now s.rule s.least c.loop-i.i c.loop-i.count (omega arith) c.loop-i.invariant (d ∙ not-false _ w.0.left)))
-    c.if-not-is_dummy.branch
+    elim c.if-not-is_dummy.branch [
+      | then-not-is_dummy+else-not-is_proper+else-not-no_later w ↦
+          let p = ap (is_proper s.rule) (sym c.read-x.ensures) ∙ sym w.is_proper.ensures ∙ w.if-not-is_proper.false in
+          let l = ap (before s.rule s.least) (sym c.read-x.ensures) ∙ sym (w.no_later.ensures s.rule) ∙ w.if-not-no_later.false in
+          rw w.count-is (fine-record s.slots.now s.rule s.least c.loop-i.i c.loop-i.count (omega arith) c.loop-i.invariant (d ∙ w.if-not-is_dummy.true) p l)
+      | else-not-is_dummy w ↦
+          rw w.count-is (fine-dummy s.slots.now s.rule s.least c.loop-i.i c.loop-i.count (omega arith) c.loop-i.invariant (d ∙ w.if-not-is_dummy.false))
+    ]
 
 pub returns : goal.returns
 returns c =
