@@ -27,12 +27,13 @@ use Rattle.path.proofs.PathLaws.{path-root, path_parent}
 use Rattle.tree.specs.Tree.{Tree, InTree}
 use Rattle.tree.specs.Path.{OnPath}
 use Rattle.good.specs.Good.{children_in, Good}
-use Rattle.good.proofs.OnceLaws.{Once, test-once, more}
+use Rattle.good.proofs.OnceLaws.{Once, test-once, none, more}
 use Rattle.good.proofs.LeastLaws.{children-inner, children-leaf}
 
 -- where no stamp stands twice, a stamp names one record
 pub stamp-names : {x y : Record} {w : List Record} → Once w → Memᴰ x w → Memᴰ y w → is_dummy x ≡ false → is_dummy y ≡ false
     → x.stamp.0 ≡ y.stamp.0 → x ≡ y
+stamp-names none m _ dx dy s = elim m [ ]
 stamp-names (more f o) (Memᴰ.head e) (Memᴰ.head g) dx dy s = e ∙ sym g
 stamp-names {x} {y} (more f o) (Memᴰ.head e) (Memᴰ.tail n) dx dy s =
     absurd (f y n (record { one = rw e at dx; two = dy; stamp = rw e at s }))

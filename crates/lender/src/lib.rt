@@ -1,9 +1,8 @@
 // A Rattle driver that keeps its card and lends it: each function holds the card in a local, lends it to the second entrance for one
 // call, and hands back what stands there afterwards.
 //
-// Each promises what the call by value promises, word for word: the second entrance equals the first. A caller needs no reference, which
-// the checker would not follow. Stands on `lent` and `loans`. A function here is proved by the law for its shape (`loans`), and must be
-// written as the law has it.
+// Each promises what the call by value promises, word for word: the second entrance equals the first. A caller needs no reference.
+// Each has a shape of which `loans` has the law. Stands on `lent`.
 #![tactic(auto)]
 
 ghost use Rattle.refusal.specs.Refusal.{first_given};

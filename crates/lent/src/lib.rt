@@ -3,8 +3,7 @@
 // Each function takes `&mut Card` and the numbers and slices of a call by value, makes that call and stores its card. Its promise is
 // that call's, at the card that stood behind the reference and the card that stands there afterwards. Stands on `card` and `shapes`.
 //
-// The checker does not follow a reference to a struct. A function here is proved by the law for its shape (`shapes`), and must be
-// written as the law has it: `let done = card.CALL(..); *card = done.card; done.answer`.
+// Each has a shape of which `shapes` has the law: `let done = card.CALL(..); *card = done.card; done.answer`.
 #![tactic(auto)]
 
 ghost use Rattle.refusal.specs.Refusal.{first_given};
