@@ -3,32 +3,33 @@
 use crate::forged::{deleting, extracting, inserting};
 use crate::named::{CROWDED, EMPTIED, FULL, HELD, SPENT};
 use record::DUMMY_KEY;
+use std::io;
 
-pub(crate) fn bad_waiting() {
+pub(crate) fn bad_waiting(rt: &(impl Print + Input)) -> io::Result<()> {
     // Insert waits, 4
-    inserting(SPENT, 6, 1, 1, 2);
+    inserting(rt, SPENT, 6, 1, 1, 2)?;
     // ExtractMin waits, 4
-    extracting(SPENT);
+    extracting(rt, SPENT)?;
     // Delete waits, 4
-    deleting(SPENT, 0, 1);
+    deleting(rt, SPENT, 0, 1)?;
     // Insert waits, 5
-    inserting(HELD, DUMMY_KEY, 1, 1, 2);
+    inserting(rt, HELD, DUMMY_KEY, 1, 1, 2)?;
     // Insert waits, 6, label
-    inserting(HELD, 6, 4, 1, 2);
+    inserting(rt, HELD, 6, 4, 1, 2)?;
     // Insert waits, 6, first leaf
-    inserting(HELD, 6, 1, 2, 2);
+    inserting(rt, HELD, 6, 1, 2, 2)?;
     // Insert waits, 6, second low
-    inserting(HELD, 6, 1, 1, 1);
+    inserting(rt, HELD, 6, 1, 1, 1)?;
     // Insert waits, 6, second high
-    inserting(HELD, 6, 1, 1, 4);
+    inserting(rt, HELD, 6, 1, 1, 4)?;
     // Delete waits, 6
-    deleting(HELD, 4, 1);
+    deleting(rt, HELD, 4, 1)?;
     // Delete waits, 7
-    deleting(HELD, 0, 5);
+    deleting(rt, HELD, 0, 5)?;
     // ExtractMin waits, 8
-    extracting(EMPTIED);
+    extracting(rt, EMPTIED)?;
     // Insert waits, 9
-    inserting(FULL, 6, 1, 1, 2);
+    inserting(rt, FULL, 6, 1, 1, 2)?;
     // Insert waits, 10
-    inserting(CROWDED, 6, 1, 1, 2);
+    inserting(rt, CROWDED, 6, 1, 1, 2)
 }

@@ -1,40 +1,43 @@
 // A line of the table: the name of its case, then its numbers. The names are read from the input, in the order of the cases:
 // a text in the code costs the check far more than the call that it names.
-use libc::{STDIN_FILENO, STDOUT_FILENO};
+use std::io;
+use std::io::Read;
 
 // No name is as long.
 const NAME_MOST: u64 = 100;
 
 // One byte of the name, unless it is the line end before it; false after the colon, and where the input ends.
-fn copy_byte() -> bool {
+fn copy_byte(rt: &impl Print, input: &mut impl Read) -> io::Result<bool> {
     let mut byte = [0u8; 1];
-    if io::read_full(STDIN_FILENO, &mut byte) == 0 {
-        return false;
+    if input.read(&mut byte)? == 0 {
+        return Ok(false);
     }
     let b = byte[0];
     if b == b'\n' {
-        return true;
+        return Ok(true);
     }
-    io::write_all(STDOUT_FILENO, &byte);
-    b != b':'
+    rt.write_all(&byte)?;
+    Ok(b != b':')
 }
 
-pub(crate) fn name() {
-    let mut left = NAME_MOST;
-    while left > 0 && copy_byte() {
-        left -= 1;
+pub(crate) fn name(rt: &(impl Print + Input)) -> io::Result<()> {
+    let mut input = rt.reader();
+    for _ in 0..NAME_MOST {
+        if !copy_byte(rt, &mut input)? {
+            break;
+        }
     }
+    Ok(())
 }
 
-pub(crate) fn text(bytes: &[u8]) {
-    io::write_all(STDOUT_FILENO, bytes);
+pub(crate) fn text(rt: &impl Print, bytes: &[u8]) -> io::Result<()> {
+    rt.write_all(bytes)
 }
 
-pub(crate) fn number(n: u64) {
-    io::write_all(STDOUT_FILENO, b" ");
-    io::print_decimal(STDOUT_FILENO, n);
+pub(crate) fn number(rt: &impl Print, n: u64) -> io::Result<()> {
+    print!(rt; " {n}")
 }
 
-pub(crate) fn end() {
-    io::write_all(STDOUT_FILENO, b"\n");
+pub(crate) fn end(rt: &impl Print) -> io::Result<()> {
+    rt.write_all(b"\n")
 }

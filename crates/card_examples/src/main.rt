@@ -20,12 +20,14 @@ mod show;
 mod starts;
 mod tries;
 
-fn main() {
-    starts::starts();
-    bad::bad();
-    bad_waiting::bad_waiting();
-    good::good();
-    refused::refused();
-    order::order();
-    runs::runs();
+use std::io;
+
+fn main(rt: HostRuntime) -> io::Result<()> {
+    starts::starts(&rt)?;
+    bad::bad(&rt)?;
+    bad_waiting::bad_waiting(&rt)?;
+    good::good(&rt)?;
+    refused::refused(&rt)?;
+    order::order(&rt)?;
+    runs::runs(&rt)
 }

@@ -8,105 +8,106 @@ use crate::tries::{
     delete, delete_short, extract, extract_short, insert, insert_short, min, withdraw,
 };
 use record::DUMMY_KEY;
+use std::io;
 
 // A request that waits where t = T is itself what 13 names, so that 2 and 4 never meet on a good card.
-fn after_13() {
+fn after_13(rt: &(impl Print + Input)) -> io::Result<()> {
     // 13 and 2
-    insert(BAD_BUSY, 6, 1, 1, 2);
+    insert(rt, BAD_BUSY, 6, 1, 1, 2)?;
     // 13 and 3
-    withdraw(BAD);
+    withdraw(rt, BAD)?;
     // 13 and 4
-    insert(BAD_SPENT, 6, 1, 1, 2);
+    insert(rt, BAD_SPENT, 6, 1, 1, 2)?;
     // 13 and 5
-    insert(BAD, DUMMY_KEY, 1, 1, 2);
+    insert(rt, BAD, DUMMY_KEY, 1, 1, 2)?;
     // 13 and 6
-    insert(BAD, 6, 4, 1, 2);
+    insert(rt, BAD, 6, 4, 1, 2)?;
     // 13 and 7
-    delete(BAD, 0, 5);
+    delete(rt, BAD, 0, 5)?;
     // 13 and 8
-    min(BAD_EMPTIED);
+    min(rt, BAD_EMPTIED)?;
     // 13 and 11
-    insert_short(BAD, 6, 1, 1, 2);
+    insert_short(rt, BAD, 6, 1, 1, 2)?;
     // 13, 2 and 4
-    extract(BUSY_SPENT);
+    extract(rt, BUSY_SPENT)
 }
 
-fn after_2() {
+fn after_2(rt: &(impl Print + Input)) -> io::Result<()> {
     // 2 and 5
-    insert(BUSY, DUMMY_KEY, 1, 1, 2);
+    insert(rt, BUSY, DUMMY_KEY, 1, 1, 2)?;
     // 2 and 6
-    insert(BUSY, 6, 4, 1, 2);
+    insert(rt, BUSY, 6, 4, 1, 2)?;
     // 2 and 7
-    delete(BUSY, 0, 5);
+    delete(rt, BUSY, 0, 5)?;
     // 2 and 8
-    extract(BUSY_FRESH);
+    extract(rt, BUSY_FRESH)?;
     // 2 and 8, FindMin
-    min(BUSY_FRESH);
+    min(rt, BUSY_FRESH)?;
     // 2 and 9
-    insert(BUSY_FULL, 6, 1, 1, 2);
+    insert(rt, BUSY_FULL, 6, 1, 1, 2)?;
     // 2 and 10
-    insert(BUSY_CROWDED, 6, 1, 1, 2);
+    insert(rt, BUSY_CROWDED, 6, 1, 1, 2)?;
     // 2 and 11
-    insert_short(BUSY, 6, 1, 1, 2);
+    insert_short(rt, BUSY, 6, 1, 1, 2)
 }
 
-fn after_4() {
+fn after_4(rt: &(impl Print + Input)) -> io::Result<()> {
     // 4 and 5
-    insert(SPENT, DUMMY_KEY, 1, 1, 2);
+    insert(rt, SPENT, DUMMY_KEY, 1, 1, 2)?;
     // 4 and 6
-    insert(SPENT, 6, 4, 1, 2);
+    insert(rt, SPENT, 6, 4, 1, 2)?;
     // 4 and 6, Delete
-    delete(SPENT, 4, 1);
+    delete(rt, SPENT, 4, 1)?;
     // 4 and 7
-    delete(SPENT, 0, 16);
+    delete(rt, SPENT, 0, 16)?;
     // 4 and 8
-    extract(SPENT_EMPTIED);
+    extract(rt, SPENT_EMPTIED)?;
     // 4 and 9
-    insert(SPENT_FULL, 6, 1, 1, 2);
+    insert(rt, SPENT_FULL, 6, 1, 1, 2)?;
     // 4 and 10
-    insert(SPENT_CROWDED, 6, 1, 1, 2);
+    insert(rt, SPENT_CROWDED, 6, 1, 1, 2)?;
     // 4 and 11
-    extract_short(SPENT);
+    extract_short(rt, SPENT)
 }
 
-fn after_5_and_6() {
+fn after_5_and_6(rt: &(impl Print + Input)) -> io::Result<()> {
     // 5 and 6
-    insert(HELD, DUMMY_KEY, 4, 1, 2);
+    insert(rt, HELD, DUMMY_KEY, 4, 1, 2)?;
     // 5 and 9
-    insert(FULL, DUMMY_KEY, 1, 1, 2);
+    insert(rt, FULL, DUMMY_KEY, 1, 1, 2)?;
     // 5 and 10
-    insert(CROWDED, DUMMY_KEY, 1, 1, 2);
+    insert(rt, CROWDED, DUMMY_KEY, 1, 1, 2)?;
     // 5 and 11
-    insert_short(HELD, DUMMY_KEY, 1, 1, 2);
+    insert_short(rt, HELD, DUMMY_KEY, 1, 1, 2)?;
     // 6 and 7
-    delete(HELD, 4, 5);
+    delete(rt, HELD, 4, 5)?;
     // 6 and 9
-    insert(FULL, 6, 4, 1, 2);
+    insert(rt, FULL, 6, 4, 1, 2)?;
     // 6 and 9, by a leaf
-    insert(FULL, 6, 1, 1, 4);
+    insert(rt, FULL, 6, 1, 1, 4)?;
     // 6 and 10
-    insert(CROWDED, 6, 1, 2, 2);
+    insert(rt, CROWDED, 6, 1, 2, 2)?;
     // 6 and 11
-    insert_short(HELD, 6, 1, 1, 1);
+    insert_short(rt, HELD, 6, 1, 1, 1)
 }
 
-fn after_7() {
+fn after_7(rt: &(impl Print + Input)) -> io::Result<()> {
     // 7 and 11
-    delete_short(HELD, 0, 5);
+    delete_short(rt, HELD, 0, 5)?;
     // 8 and 11
-    extract_short(FRESH);
+    extract_short(rt, FRESH)?;
     // 9 and 10
-    insert(FULL_CROWDED, 6, 1, 1, 2);
+    insert(rt, FULL_CROWDED, 6, 1, 1, 2)?;
     // 9 and 11
-    insert_short(FULL, 6, 1, 1, 2);
+    insert_short(rt, FULL, 6, 1, 1, 2)?;
     // 10 and 11
-    insert_short(CROWDED, 6, 1, 1, 2);
+    insert_short(rt, CROWDED, 6, 1, 1, 2)
 }
 
-pub(crate) fn order() {
-    after_13();
-    after_2();
-    after_4();
-    after_5_and_6();
-    after_7();
+pub(crate) fn order(rt: &(impl Print + Input)) -> io::Result<()> {
+    after_13(rt)?;
+    after_2(rt)?;
+    after_4(rt)?;
+    after_5_and_6(rt)?;
+    after_7(rt)
 }

@@ -9,187 +9,192 @@ use crate::tries::{
 };
 use crate::{calls, cards, named};
 use record::DUMMY_KEY;
+use std::io;
 
-fn busy_and_idle() {
+fn busy_and_idle(rt: &(impl Print + Input)) -> io::Result<()> {
     // 2, Insert
-    insert(BUSY, 6, 1, 1, 2);
+    insert(rt, BUSY, 6, 1, 1, 2)?;
     // 2, ExtractMin
-    extract(BUSY);
+    extract(rt, BUSY)?;
     // 2, Delete
-    delete(BUSY, 0, 1);
+    delete(rt, BUSY, 0, 1)?;
     // 2, FindMin
-    min(BUSY);
+    min(rt, BUSY)?;
     // 3, withdraw
-    withdraw(HELD);
+    withdraw(rt, HELD)
 }
 
 // FindMin is not refused by Spent.
-fn spent() {
+fn spent(rt: &(impl Print + Input)) -> io::Result<()> {
     // 4, Insert
-    insert(SPENT, 6, 1, 1, 2);
+    insert(rt, SPENT, 6, 1, 1, 2)?;
     // 4, ExtractMin
-    extract(SPENT);
+    extract(rt, SPENT)?;
     // 4, Delete
-    delete(SPENT, 0, 1);
+    delete(rt, SPENT, 0, 1)?;
     // t = T, FindMin
-    min(SPENT);
+    min(rt, SPENT)
 }
 
-fn fields_of_insert() {
+fn fields_of_insert(rt: &(impl Print + Input)) -> io::Result<()> {
     // 5, key 2^64 - 1
-    insert(HELD, DUMMY_KEY, 1, 1, 2);
+    insert(rt, HELD, DUMMY_KEY, 1, 1, 2)?;
     // key 2^64 - 2
-    insert(HELD, TOP - 1, 1, 1, 2);
+    insert(rt, HELD, TOP - 1, 1, 1, 2)?;
     // 6, label N
-    insert(HELD, 6, 4, 1, 2);
+    insert(rt, HELD, 6, 4, 1, 2)?;
     // 6, label 2^64 - 1
-    insert(HELD, 6, TOP, 1, 2);
+    insert(rt, HELD, 6, TOP, 1, 2)?;
     // 6, first leaf N/2
-    insert(HELD, 6, 1, 2, 2);
+    insert(rt, HELD, 6, 1, 2, 2)?;
     // 6, second leaf N/2 - 1
-    insert(HELD, 6, 1, 1, 1);
+    insert(rt, HELD, 6, 1, 1, 1)?;
     // 6, second leaf N
-    insert(HELD, 6, 1, 1, 4);
+    insert(rt, HELD, 6, 1, 1, 4)?;
     // 6, leaves exchanged
-    insert(HELD, 6, 1, 2, 1);
+    insert(rt, HELD, 6, 1, 2, 1)?;
     // label 3, leaves 1 and 3
-    insert(HELD, 6, 3, 1, 3);
+    insert(rt, HELD, 6, 3, 1, 3)?;
     // label 0, leaves 0 and 2
-    insert(HELD, 6, 0, 0, 2);
+    insert(rt, HELD, 6, 0, 0, 2)
 }
 
-fn low(label: u64, first: u64, second: u64) {
+fn low(rt: &(impl Print + Input), label: u64, first: u64, second: u64) -> io::Result<()> {
     let mut list = [99u64; 12];
     let card = cards::started(1, 1, 1, 2);
-    calls::insert(card, 6, label, first, second, &mut list);
+    calls::insert(rt, card, 6, label, first, second, &mut list)?;
+    Ok(())
 }
 
-fn leaves_of_height_1() {
+fn leaves_of_height_1(rt: &(impl Print + Input)) -> io::Result<()> {
     // height 1, leaves 0 and 1
-    low(1, 0, 1);
+    low(rt, 1, 0, 1)?;
     // 6, height 1, leaves 0 and 0
-    low(1, 0, 0);
+    low(rt, 1, 0, 0)?;
     // 6, height 1, leaves 1 and 1
-    low(1, 1, 1);
+    low(rt, 1, 1, 1)?;
     // 6, height 1, leaves 0 and 2
-    low(1, 0, 2);
+    low(rt, 1, 0, 2)?;
     // 6, height 1, label 2
-    low(2, 0, 1);
+    low(rt, 2, 0, 1)
 }
 
-fn fields_of_delete() {
+fn fields_of_delete(rt: &(impl Print + Input)) -> io::Result<()> {
     // 6, Delete, label N
-    delete(HELD, 4, 1);
+    delete(rt, HELD, 4, 1)?;
     // Delete, label N - 1
-    delete(HELD, 3, 1);
+    delete(rt, HELD, 3, 1)?;
     // 7, stamp t
-    delete(HELD, 0, 5);
+    delete(rt, HELD, 0, 5)?;
     // 7, stamp 2^64 - 1
-    delete(HELD, 0, TOP);
+    delete(rt, HELD, 0, TOP)?;
     // 7, t = 0
-    delete(FRESH, 0, 0);
+    delete(rt, FRESH, 0, 0)?;
     // stamp t - 1
-    delete(HELD, 0, 4);
+    delete(rt, HELD, 0, 4)
 }
 
-fn live_events() {
+fn live_events(rt: &(impl Print + Input)) -> io::Result<()> {
     // 8, FindMin
-    min(FRESH);
+    min(rt, FRESH)?;
     // 8, ExtractMin
-    extract(FRESH);
+    extract(rt, FRESH)?;
     // c = 0, Delete
-    delete(EMPTIED, 1, 4);
+    delete(rt, EMPTIED, 1, 4)?;
     // 9, c = N
-    insert(FULL, 6, 1, 1, 2);
+    insert(rt, FULL, 6, 1, 1, 2)
 }
 
 // With t and c as given, and R root slots of which slot 0 is real.
-fn counted(r: u64, t: u64, c: u64) {
+fn counted(rt: &(impl Print + Input), r: u64, t: u64, c: u64) -> io::Result<()> {
     let mut list = [99u64; 12];
     let card = cards::counts(named::card(HELD), t, c);
     let sized = cards::sized(card, 2, 1, r, 16);
-    calls::insert(sized, 6, 1, 1, 2, &mut list);
+    calls::insert(rt, sized, 6, 1, 1, 2, &mut list)?;
+    Ok(())
 }
 
 // With a root of 64 slots, of which n are real.
-fn large(n: usize)
+fn large(rt: &(impl Print + Input), n: usize) -> io::Result<()>
     requires { n ≤ 64 }
 {
     let mut list = [99u64; 12];
-    calls::insert(cards::large(n), 6, 1, 1, 64, &mut list);
+    calls::insert(rt, cards::large(n), 6, 1, 1, 64, &mut list)?;
+    Ok(())
 }
 
 // "Every root slot real" means the R slots. Height 7 asks for more than twelve places.
-fn overflow() {
+fn overflow(rt: &(impl Print + Input)) -> io::Result<()> {
     // 10, R = 2, both real
-    insert(CROWDED, 6, 1, 1, 2);
+    insert(rt, CROWDED, 6, 1, 1, 2)?;
     // 10, R = 1, one real
-    counted(1, 5, 2);
+    counted(rt, 1, 5, 2)?;
     // 10, R = 64, all real
-    large(64);
+    large(rt, 64)?;
     // 11, R = 64, 63 real
-    large(63);
+    large(rt, 63)?;
     // R = 64, FindMin
-    calls::min(cards::large(64));
+    calls::min(rt, cards::large(64))?;
     // 13, R = 64, a stamp twice
-    calls::min(cards::slot(cards::large(64), 63, 63, 0, 0, 0));
+    calls::min(rt, cards::slot(cards::large(64), 63, 63, 0, 0, 0))?;
+    Ok(())
 }
 
-fn near_the_counts() {
+fn near_the_counts(rt: &(impl Print + Input)) -> io::Result<()> {
     // t = T - 1, Insert
-    counted(2, 15, 2);
+    counted(rt, 2, 15, 2)?;
     // c = N - 1, Insert
-    counted(2, 5, 3);
+    counted(rt, 2, 5, 3)
 }
 
 // Insert's list at height 2 has six numbers, the others' four.
-fn insert_0() {
+fn insert_0(rt: &(impl Print + Input)) -> io::Result<()> {
     let mut list = [99u64; 0];
     // 11, Insert, 0 places
-    insert_in(HELD, 6, 1, 1, 2, &mut list);
+    insert_in(rt, HELD, 6, 1, 1, 2, &mut list)
 }
 
-fn insert_6() {
+fn insert_6(rt: &(impl Print + Input)) -> io::Result<()> {
     let mut list = [99u64; 6];
     // Insert, 6 places
-    insert_in(HELD, 6, 1, 1, 2, &mut list);
+    insert_in(rt, HELD, 6, 1, 1, 2, &mut list)
 }
 
-fn insert_7() {
+fn insert_7(rt: &(impl Print + Input)) -> io::Result<()> {
     let mut list = [99u64; 7];
     // Insert, 7 places
-    insert_in(HELD, 6, 1, 1, 2, &mut list);
+    insert_in(rt, HELD, 6, 1, 1, 2, &mut list)
 }
 
-fn path_4() {
+fn path_4(rt: &(impl Print + Input)) -> io::Result<()> {
     let mut list = [99u64; 4];
     // ExtractMin, 4 places
-    extract_in(HELD, &mut list);
+    extract_in(rt, HELD, &mut list)?;
     // Delete, 4 places
-    delete_in(HELD, 2, 0, &mut list);
+    delete_in(rt, HELD, 2, 0, &mut list)
 }
 
-fn rooms() {
-    insert_0();
+fn rooms(rt: &(impl Print + Input)) -> io::Result<()> {
+    insert_0(rt)?;
     // 11, Insert, 5 places
-    insert_short(HELD, 6, 1, 1, 2);
-    insert_6();
-    insert_7();
+    insert_short(rt, HELD, 6, 1, 1, 2)?;
+    insert_6(rt)?;
+    insert_7(rt)?;
     // 11, ExtractMin, 3 places
-    extract_short(HELD);
+    extract_short(rt, HELD)?;
     // 11, Delete, 3 places
-    delete_short(HELD, 2, 0);
-    path_4();
+    delete_short(rt, HELD, 2, 0)?;
+    path_4(rt)
 }
 
-pub(crate) fn refused() {
-    busy_and_idle();
-    spent();
-    fields_of_insert();
-    leaves_of_height_1();
-    fields_of_delete();
-    live_events();
-    near_the_counts();
-    overflow();
-    rooms();
+pub(crate) fn refused(rt: &(impl Print + Input)) -> io::Result<()> {
+    busy_and_idle(rt)?;
+    spent(rt)?;
+    fields_of_insert(rt)?;
+    leaves_of_height_1(rt)?;
+    fields_of_delete(rt)?;
+    live_events(rt)?;
+    near_the_counts(rt)?;
+    overflow(rt)?;
+    rooms(rt)
 }

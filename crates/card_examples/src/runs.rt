@@ -2,86 +2,94 @@
 use crate::named::{BELOW, HELD};
 use crate::{calls, cards, line, named, show, tries};
 use card::Card;
+use std::io;
 
-fn standing(card: Card) {
-    line::name();
-    show::card(card);
-    line::end();
+fn standing(rt: &(impl Print + Input), card: Card) -> io::Result<()> {
+    line::name(rt)?;
+    show::card(rt, card)?;
+    line::end(rt)
 }
 
-fn begin(card: Card, key: u64, label: u64, first: u64, second: u64) -> Card {
+fn begin(
+    rt: &(impl Print + Input),
+    card: Card,
+    key: u64,
+    label: u64,
+    first: u64,
+    second: u64,
+) -> io::Result<Card> {
     let mut list = [99u64; 12];
-    calls::insert(card, key, label, first, second, &mut list)
+    calls::insert(rt, card, key, label, first, second, &mut list)
 }
 
 // A refused begin leaves the waiting request in place.
-fn begun_twice() -> Card {
+fn begun_twice(rt: &(impl Print + Input)) -> io::Result<Card> {
     // begin
-    let begun = begin(cards::fresh(), 6, 1, 1, 2);
+    let begun = begin(rt, cards::fresh(), 6, 1, 1, 2)?;
     // begun
-    standing(begun);
+    standing(rt, begun)?;
     // begin again
-    let again = begin(begun, 8, 2, 0, 3);
+    let again = begin(rt, begun, 8, 2, 0, 3)?;
     // still
-    standing(again);
+    standing(rt, again)?;
     // FindMin
-    calls::min(again)
+    calls::min(rt, again)
 }
 
 // Once withdrawn, a request may be begun again.
-fn withdrawn_twice(begun: Card) {
+fn withdrawn_twice(rt: &(impl Print + Input), begun: Card) -> io::Result<()> {
     // withdraw
-    let dropped = calls::withdraw(begun);
+    let dropped = calls::withdraw(rt, begun)?;
     // withdrawn
-    standing(dropped);
+    standing(rt, dropped)?;
     // withdraw again
-    let idle = calls::withdraw(dropped);
+    let idle = calls::withdraw(rt, dropped)?;
     // begin a third time
-    let third = begin(idle, 8, 2, 0, 3);
+    let third = begin(rt, idle, 8, 2, 0, 3)?;
     // begun
-    standing(third);
+    standing(rt, third)
 }
 
 // What waits is what begin was given.
-fn begun_extract() {
+fn begun_extract(rt: &(impl Print + Input)) -> io::Result<()> {
     let mut list = [99u64; 12];
     // ExtractMin
-    let extracting = calls::extract(named::card(HELD), &mut list);
+    let extracting = calls::extract(rt, named::card(HELD), &mut list)?;
     // begun
-    standing(extracting);
+    standing(rt, extracting)
 }
 
-fn begun_delete() {
+fn begun_delete(rt: &(impl Print + Input)) -> io::Result<()> {
     let mut list = [99u64; 12];
     // Delete
-    let deleting = calls::delete(named::card(HELD), 2, 3, &mut list);
+    let deleting = calls::delete(rt, named::card(HELD), 2, 3, &mut list)?;
     // begun
-    standing(deleting);
+    standing(rt, deleting)
 }
 
 // P12 and P11, where the root's least record has label 0; one that is not in the root; and height 3, where the order of an
 // Insert's siblings shows.
-fn lists() {
+fn lists(rt: &(impl Print + Input)) -> io::Result<()> {
     // P12
-    begin(cards::started(2, 1, 1, 16), 6, 3, 1, 2);
+    begin(rt, cards::started(2, 1, 1, 16), 6, 3, 1, 2)?;
     // P11
-    tries::extract(HELD);
+    tries::extract(rt, HELD)?;
     // the least record has label 3
-    tries::extract(BELOW);
+    tries::extract(rt, BELOW)?;
     // Delete of label 2
-    tries::delete(HELD, 2, 0);
+    tries::delete(rt, HELD, 2, 0)?;
     let three = cards::started(3, 2, 1, 16);
     // height 3, leaves 1 and 6
-    begin(three, 6, 3, 1, 6);
+    begin(rt, three, 6, 3, 1, 6)?;
     // FindMin
-    tries::min(HELD);
+    tries::min(rt, HELD)?;
     // FindMin, below the root
-    tries::min(BELOW);
+    tries::min(rt, BELOW)
 }
 
-pub(crate) fn runs() {
-    withdrawn_twice(begun_twice());
-    begun_extract();
-    begun_delete();
-    lists();
+pub(crate) fn runs(rt: &(impl Print + Input)) -> io::Result<()> {
+    withdrawn_twice(rt, begun_twice(rt)?)?;
+    begun_extract(rt)?;
+    begun_delete(rt)?;
+    lists(rt)
 }

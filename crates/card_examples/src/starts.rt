@@ -2,56 +2,60 @@
 use crate::cards::TOP;
 use crate::{calls, cards, line, show};
 use card::Card;
+use std::io;
 
-fn start(h: u64, z: u64, r: u64, t: u64) {
+fn start(rt: &impl Print, h: u64, z: u64, r: u64, t: u64) -> io::Result<()> {
     let done = Card::start(h, z, r, t);
-    line::text(b"start");
-    line::number(h);
-    line::number(z);
-    line::number(r);
-    line::number(t);
-    line::text(b":");
-    show::answer(done);
-    line::end();
+    line::text(rt, b"start")?;
+    line::number(rt, h)?;
+    line::number(rt, z)?;
+    line::number(rt, r)?;
+    line::number(rt, t)?;
+    line::text(rt, b":")?;
+    show::answer(rt, done)?;
+    line::end(rt)
 }
 
-fn within() {
-    start(2, 1, 1, 16);
-    start(1, 1, 1, 2);
-    start(2, 5, 64, 4);
-    start(16, 5, 64, 65536);
-    start(16, 5, 64, 4294967295);
+fn within(rt: &impl Print) -> io::Result<()> {
+    start(rt, 2, 1, 1, 16)?;
+    start(rt, 1, 1, 1, 2)?;
+    start(rt, 2, 5, 64, 4)?;
+    start(rt, 16, 5, 64, 65536)?;
+    start(rt, 16, 5, 64, 4294967295)
 }
 
-fn outside() {
-    start(0, 1, 1, 16);
-    start(17, 1, 1, 4294967295);
-    start(TOP, 1, 1, 16);
-    start(2, 0, 1, 16);
-    start(2, 6, 1, 16);
-    start(2, 1, 0, 16);
-    start(2, 1, 65, 16);
-    start(2, 1, 1, 3);
-    start(16, 5, 64, 65535);
-    start(2, 1, 1, 4294967296);
-    start(0, 0, 0, 0);
+fn outside(rt: &impl Print) -> io::Result<()> {
+    start(rt, 0, 1, 1, 16)?;
+    start(rt, 17, 1, 1, 4294967295)?;
+    start(rt, TOP, 1, 1, 16)?;
+    start(rt, 2, 0, 1, 16)?;
+    start(rt, 2, 6, 1, 16)?;
+    start(rt, 2, 1, 0, 16)?;
+    start(rt, 2, 1, 65, 16)?;
+    start(rt, 2, 1, 1, 3)?;
+    start(rt, 16, 5, 64, 65535)?;
+    start(rt, 2, 1, 1, 4294967296)?;
+    start(rt, 0, 0, 0, 0)
 }
 
 // The card that a start hands back, and then what each call gives on it.
-fn handed_back(t: u64) {
+fn handed_back(rt: &(impl Print + Input), t: u64) -> io::Result<()> {
     let card = cards::started(2, 1, 2, t);
-    line::name();
-    show::card(card);
-    line::end();
-    calls::each(card);
+    line::name(rt)?;
+    show::card(rt, card)?;
+    line::end(rt)?;
+    calls::each(rt, card)
 }
 
 // A refused start hands back a card with 0 in every field, which every call refuses.
-pub(crate) fn starts() {
-    within();
-    outside();
-    line::text(b"Of each card: Insert, ExtractMin, Delete, FindMin, withdraw.");
-    line::end();
-    handed_back(16);
-    handed_back(3);
+pub(crate) fn starts(rt: &(impl Print + Input)) -> io::Result<()> {
+    within(rt)?;
+    outside(rt)?;
+    line::text(
+        rt,
+        b"Of each card: Insert, ExtractMin, Delete, FindMin, withdraw.",
+    )?;
+    line::end(rt)?;
+    handed_back(rt, 16)?;
+    handed_back(rt, 3)
 }

@@ -5,8 +5,9 @@
 // nothing else. Stands on `sitting`.
 #![tactic(auto)]
 
-use libc::{STDIN_FILENO, STDOUT_FILENO};
 use sitting::Sitting;
+use std::io;
+use std::io::Read;
 
 // The words that are lent for a tree.
 const TREE_WORDS: usize = 8192;
@@ -17,42 +18,40 @@ const CHUNK: usize = 4096;
 const ROOM: usize = 4096;
 
 // Hands in a chunk until all of it is taken.
-fn pass(sitting: Sitting, tree: &mut [u64], chunk: &[u8]) -> Sitting {
+fn pass(rt: &impl Print, sitting: Sitting, tree: &mut [u64], chunk: &[u8]) -> io::Result<Sitting> {
     let mut out = [0u8; ROOM];
     let mut after = sitting;
     let mut from = 0;
     while from < chunk.len() {
         let fed = sitting::feed(after, tree, &chunk[from..], &mut out);
         let written = fed.written;
-        io::write_all(STDOUT_FILENO, &out[..written]);
+        rt.write_all(&out[..written])?;
         after = fed.sitting;
         from += fed.taken;
     }
-    after
+    Ok(after)
 }
 
 // The end of the input.
-fn end(sitting: Sitting, tree: &mut [u64]) {
+fn end(rt: &impl Print, sitting: Sitting, tree: &mut [u64]) -> io::Result<()> {
     let mut out = [0u8; ROOM];
     let written = sitting::close(sitting, tree, &mut out);
-    io::write_all(STDOUT_FILENO, &out[..written]);
+    rt.write_all(&out[..written])
 }
 
-// A proved loop has to end, and nothing says that the input does, so that the turns are counted down from a number that no run
+// A proved loop has to end, and nothing says that the input does, so that the turns are counted up to a number that no run
 // uses up.
-fn main() {
+fn main(rt: HostRuntime) -> io::Result<()> {
+    let mut input = rt.stdin();
     let mut chunk = [0u8; CHUNK];
     let mut tree = [0u64; TREE_WORDS];
     let mut sitting = sitting::open();
-    let mut left = u64::MAX;
-    while left > 0 {
-        let got = libc::read(STDIN_FILENO, &mut chunk);
-        let n = io::count(got, &chunk);
+    for _ in 0..u64::MAX {
+        let n = input.read(&mut chunk)?;
         if n == 0 {
             break;
         }
-        sitting = pass(sitting, &mut tree, &chunk[..n]);
-        left -= 1;
+        sitting = pass(&rt, sitting, &mut tree, &chunk[..n])?;
     }
-    end(sitting, &mut tree);
+    end(&rt, sitting, &mut tree)
 }

@@ -1,23 +1,22 @@
 // A line of the table: a name, then its numbers.
-use libc::STDOUT_FILENO;
+use std::io;
 
-pub(crate) fn name(text: &[u8]) {
-    io::write_all(STDOUT_FILENO, text);
+pub(crate) fn name(rt: &impl Print, text: &[u8]) -> io::Result<()> {
+    rt.write_all(text)
 }
 
-pub(crate) fn number(n: u64) {
-    io::write_all(STDOUT_FILENO, b" ");
-    io::print_decimal(STDOUT_FILENO, n);
+pub(crate) fn number(rt: &impl Print, n: u64) -> io::Result<()> {
+    print!(rt; " {n}")
 }
 
-pub(crate) fn verdict(yes: bool) {
+pub(crate) fn verdict(rt: &impl Print, yes: bool) -> io::Result<()> {
     if yes {
-        io::write_all(STDOUT_FILENO, b" yes");
+        rt.write_all(b" yes")
     } else {
-        io::write_all(STDOUT_FILENO, b" no");
+        rt.write_all(b" no")
     }
 }
 
-pub(crate) fn end() {
-    io::write_all(STDOUT_FILENO, b"\n");
+pub(crate) fn end(rt: &impl Print) -> io::Result<()> {
+    rt.write_all(b"\n")
 }

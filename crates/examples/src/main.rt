@@ -7,9 +7,11 @@ mod line;
 mod paths;
 mod records;
 
-fn main() {
-    records::records();
-    paths::ranges();
-    paths::numbers();
-    paths::lists();
+use std::io;
+
+fn main(rt: HostRuntime) -> io::Result<()> {
+    records::records(&rt)?;
+    paths::ranges(&rt)?;
+    paths::numbers(&rt)?;
+    paths::lists(&rt)
 }

@@ -2,6 +2,7 @@
 use crate::line;
 use path::Sizes;
 use record::{Leaf, Record, Stamp};
+use std::io;
 
 fn event(key: u64, label: u64) -> Record {
     Record {
@@ -12,7 +13,7 @@ fn event(key: u64, label: u64) -> Record {
     }
 }
 
-fn evicted(root: Record, one: Record, two: Record) {
+fn evicted(rt: &impl Print, root: Record, one: Record, two: Record) -> io::Result<()> {
     let sizes = Sizes {
         h: 2,
         z: 1,
@@ -24,11 +25,11 @@ fn evicted(root: Record, one: Record, two: Record) {
     one.write(&mut w, 1);
     two.write(&mut w, 2);
     way::evict(&mut w, sizes, Leaf(0));
-    line::numbers(&w);
+    line::numbers(rt, &w)
 }
 
 // The record at level 1 goes down to leaf 0, and the root's takes its place; a full way stays as it is.
-pub(crate) fn pins() {
-    evicted(event(3, 1), event(1, 0), Record::DUMMY);
-    evicted(event(3, 1), event(1, 0), event(2, 0));
+pub(crate) fn pins(rt: &impl Print) -> io::Result<()> {
+    evicted(rt, event(3, 1), event(1, 0), Record::DUMMY)?;
+    evicted(rt, event(3, 1), event(1, 0), event(2, 0))
 }

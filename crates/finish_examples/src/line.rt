@@ -1,17 +1,18 @@
 // Lines of the table: some numbers, or an answer's number and its six values.
 use answers::Answer;
-use libc::STDOUT_FILENO;
+use std::io;
 
-pub(crate) fn numbers(list: &[u64]) {
+pub(crate) fn numbers(rt: &impl Print, list: &[u64]) -> io::Result<()> {
     let mut out = [0u8; 256];
     let n = frames::print_answer(list, &mut out);
     if n <= out.len() {
-        io::write_all(STDOUT_FILENO, &out[0..n]);
+        rt.write_all(&out[0..n])?;
     }
+    Ok(())
 }
 
-pub(crate) fn answer(answer: Answer) {
+pub(crate) fn answer(rt: &impl Print, answer: Answer) -> io::Result<()> {
     let n = answers::number_of(answer);
     let v = answers::values_of(answer);
-    numbers(&[n, v[0], v[1], v[2], v[3], v[4], v[5]]);
+    numbers(rt, &[n, v[0], v[1], v[2], v[3], v[4], v[5]])
 }

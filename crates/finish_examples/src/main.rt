@@ -8,14 +8,15 @@ mod line;
 mod rounds;
 
 use card::Card;
+use std::io;
 
-fn main() {
+fn main(rt: HostRuntime) -> io::Result<()> {
     let done = Card::start(2, 1, 1, 16);
     let mut tree = [0u64; 48];
     rack::fill(&mut tree, 2, 1);
-    let full = rounds::insertions(done.card, &mut tree);
-    rounds::least(full);
-    let fewer = rounds::extraction(full, &mut tree);
-    rounds::removals(fewer, &mut tree);
-    eviction::pins();
+    let full = rounds::insertions(&rt, done.card, &mut tree)?;
+    rounds::least(&rt, full)?;
+    let fewer = rounds::extraction(&rt, full, &mut tree)?;
+    rounds::removals(&rt, fewer, &mut tree)?;
+    eviction::pins(&rt)
 }

@@ -4,12 +4,13 @@ use answers::Answer;
 use card::{Card, Done};
 use record::{Leaf, Stamp};
 use request::Request;
+use std::io;
 
 // The answer is printed, and the card goes on.
-fn told(done: Done) -> Card {
+fn told(rt: &impl Print, done: Done) -> io::Result<Card> {
     let answer = done.answer;
-    line::answer(answer);
-    done.card
+    line::answer(rt, answer)?;
+    Ok(done.card)
 }
 
 // What was listed is fetched, worked on and stored back.
@@ -22,15 +23,22 @@ fn worked(card: Card, list: &[u64], whole: usize, least: usize, tree: &mut [u64]
 }
 
 // A refused begin is answered as it is.
-fn round(begun: Done, list: &[u64], tree: &mut [u64]) -> Card {
+fn round(rt: &impl Print, begun: Done, list: &[u64], tree: &mut [u64]) -> io::Result<Card> {
     let answer = begun.answer;
     match answer {
-        Answer::Listed { whole, least } => told(worked(begun.card, list, whole, least, tree)),
-        _ => told(begun),
+        Answer::Listed { whole, least } => told(rt, worked(begun.card, list, whole, least, tree)),
+        _ => told(rt, begun),
     }
 }
 
-fn insert(card: Card, tree: &mut [u64], key: u64, value: u64, label: Leaf) -> Card {
+fn insert(
+    rt: &impl Print,
+    card: Card,
+    tree: &mut [u64],
+    key: u64,
+    value: u64,
+    label: Leaf,
+) -> io::Result<Card> {
     let mut list = [0u64; 6];
     let request = Request::Insert {
         key: key,
@@ -40,64 +48,73 @@ fn insert(card: Card, tree: &mut [u64], key: u64, value: u64, label: Leaf) -> Ca
         second: Leaf(2),
     };
     let begun = card.begin(request, &mut list);
-    round(begun, &list, tree)
+    round(rt, begun, &list, tree)
 }
 
-fn extract(card: Card, tree: &mut [u64]) -> Card {
+fn extract(rt: &impl Print, card: Card, tree: &mut [u64]) -> io::Result<Card> {
     let mut list = [0u64; 4];
     let request = Request::Extract;
     let begun = card.begin(request, &mut list);
-    line::numbers(&list);
-    round(begun, &list, tree)
+    line::numbers(rt, &list)?;
+    round(rt, begun, &list, tree)
 }
 
-fn delete(card: Card, tree: &mut [u64], label: Leaf, stamp: Stamp) -> Card {
+fn delete(
+    rt: &impl Print,
+    card: Card,
+    tree: &mut [u64],
+    label: Leaf,
+    stamp: Stamp,
+) -> io::Result<Card> {
     let mut list = [0u64; 4];
     let request = Request::Delete {
         label: label,
         stamp: stamp,
     };
     let begun = card.begin(request, &mut list);
-    round(begun, &list, tree)
+    round(rt, begun, &list, tree)
 }
 
 // The words of a bucket: with height 2 and one slot, the buckets 2 to 7 have 8 words each.
-fn bucket(tree: &[u64], number: usize) {
+fn bucket(rt: &impl Print, tree: &[u64], number: usize) -> io::Result<()> {
     if number < 2 {
-        return;
+        return Ok(());
     }
     if number > 7 {
-        return;
+        return Ok(());
     }
     let start = 8 * (number - 2);
     if start + 8 <= tree.len() {
-        line::numbers(&tree[start..start + 8]);
+        line::numbers(rt, &tree[start..start + 8])?;
     }
+    Ok(())
 }
 
 // The third finds the root full.
-pub(crate) fn insertions(fresh: Card, tree: &mut [u64]) -> Card {
-    let one = insert(fresh, tree, 7, 70, Leaf(0));
-    bucket(tree, 2);
-    let two = insert(one, tree, 5, 50, Leaf(0));
-    insert(two, tree, 6, 60, Leaf(3))
+pub(crate) fn insertions(rt: &impl Print, fresh: Card, tree: &mut [u64]) -> io::Result<Card> {
+    let one = insert(rt, fresh, tree, 7, 70, Leaf(0))?;
+    bucket(rt, tree, 2)?;
+    let two = insert(rt, one, tree, 5, 50, Leaf(0))?;
+    insert(rt, two, tree, 6, 60, Leaf(3))
 }
 
-pub(crate) fn least(card: Card) {
-    told(card.find_min());
+pub(crate) fn least(rt: &impl Print, card: Card) -> io::Result<()> {
+    told(rt, card.find_min())?;
+    Ok(())
 }
 
 // The event that is the least, and the buckets that it leaves.
-pub(crate) fn extraction(full: Card, tree: &mut [u64]) -> Card {
-    let one = extract(full, tree);
-    bucket(tree, 2);
-    bucket(tree, 4);
-    one
+pub(crate) fn extraction(rt: &impl Print, full: Card, tree: &mut [u64]) -> io::Result<Card> {
+    let one = extract(rt, full, tree)?;
+    bucket(rt, tree, 2)?;
+    bucket(rt, tree, 4)?;
+    Ok(one)
 }
 
 // The second Delete finds nothing, and then no event is left.
-pub(crate) fn removals(card: Card, tree: &mut [u64]) {
-    let one = delete(card, tree, Leaf(0), Stamp(0));
-    let two = delete(one, tree, Leaf(0), Stamp(0));
-    extract(two, tree);
+pub(crate) fn removals(rt: &impl Print, card: Card, tree: &mut [u64]) -> io::Result<()> {
+    let one = delete(rt, card, tree, Leaf(0), Stamp(0))?;
+    let two = delete(rt, one, tree, Leaf(0), Stamp(0))?;
+    extract(rt, two, tree)?;
+    Ok(())
 }

@@ -8,34 +8,36 @@ mod requests;
 
 use answers::Answer;
 use card::{Card, Done};
-use libc::STDOUT_FILENO;
+use std::io;
 use steps::Reply;
 
 // The longest reply has 107 bytes.
 const REPLY_ROOM: usize = 128;
 
-fn say(answer: Answer) {
+fn say(rt: &impl Print, answer: Answer) -> io::Result<()> {
     let mut out = [0u8; REPLY_ROOM];
     let reply = Reply::Said(answer);
     let n = replies::print_reply(reply, &mut out);
     if n <= out.len() {
-        io::write_all(STDOUT_FILENO, &out[0..n]);
+        rt.write_all(&out[0..n])?;
     }
+    Ok(())
 }
 
 // The answer is printed, and the card goes on.
-pub(crate) fn told(done: Done) -> Card {
+pub(crate) fn told(rt: &impl Print, done: Done) -> io::Result<Card> {
     let answer = done.answer;
-    say(answer);
-    done.card
+    say(rt, answer)?;
+    Ok(done.card)
 }
 
-fn main() {
+fn main(rt: HostRuntime) -> io::Result<()> {
     let none = Card::start(0, 0, 0, 0);
-    let fresh = told(lender::start(none.card, 2, 1, 1, 16));
+    let fresh = told(&rt, lender::start(none.card, 2, 1, 1, 16))?;
     let mut tree = [0u64; 48];
     rack::fill(&mut tree, 2, 1);
-    let full = requests::insertions(fresh, &mut tree);
-    let seen = told(lender::find_min(full));
-    requests::removals(seen, &mut tree);
+    let full = requests::insertions(&rt, fresh, &mut tree)?;
+    let seen = told(&rt, lender::find_min(full))?;
+    requests::removals(&rt, seen, &mut tree)?;
+    Ok(())
 }

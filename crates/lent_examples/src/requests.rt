@@ -4,9 +4,10 @@ use answers::Answer;
 use card::Card;
 use record::{Leaf, Stamp};
 use request::Request;
+use std::io;
 
 // What was listed is fetched, worked on and stored back; a refused begin is answered as it is.
-fn round(card: Card, tree: &mut [u64], request: Request) -> Card {
+fn round(rt: &impl Print, card: Card, tree: &mut [u64], request: Request) -> io::Result<Card> {
     let mut list = [0u64; 6];
     let begun = lender::begin(card, request, &mut list);
     let answer = begun.answer;
@@ -16,13 +17,20 @@ fn round(card: Card, tree: &mut [u64], request: Request) -> Card {
             rack::fetch(2, 1, tree, &list, whole, least, &mut words);
             let done = lender::finish(begun.card, &mut words);
             rack::store(2, 1, tree, &list, whole, least, &words);
-            told(done)
+            told(rt, done)
         }
-        _ => told(begun),
+        _ => told(rt, begun),
     }
 }
 
-fn insert(card: Card, tree: &mut [u64], key: u64, value: u64, label: Leaf) -> Card {
+fn insert(
+    rt: &impl Print,
+    card: Card,
+    tree: &mut [u64],
+    key: u64,
+    value: u64,
+    label: Leaf,
+) -> io::Result<Card> {
     let request = Request::Insert {
         key: key,
         value: value,
@@ -30,33 +38,39 @@ fn insert(card: Card, tree: &mut [u64], key: u64, value: u64, label: Leaf) -> Ca
         first: Leaf(1),
         second: Leaf(2),
     };
-    round(card, tree, request)
+    round(rt, card, tree, request)
 }
 
-fn extract(card: Card, tree: &mut [u64]) -> Card {
+fn extract(rt: &impl Print, card: Card, tree: &mut [u64]) -> io::Result<Card> {
     let request = Request::Extract;
-    round(card, tree, request)
+    round(rt, card, tree, request)
 }
 
-fn delete(card: Card, tree: &mut [u64], label: Leaf, stamp: Stamp) -> Card {
+fn delete(
+    rt: &impl Print,
+    card: Card,
+    tree: &mut [u64],
+    label: Leaf,
+    stamp: Stamp,
+) -> io::Result<Card> {
     let request = Request::Delete {
         label: label,
         stamp: stamp,
     };
-    round(card, tree, request)
+    round(rt, card, tree, request)
 }
 
 // Lines 2 to 4 of the sample: the last finds the root full.
-pub(crate) fn insertions(fresh: Card, tree: &mut [u64]) -> Card {
-    let one = insert(fresh, tree, 7, 70, Leaf(0));
-    let two = insert(one, tree, 5, 50, Leaf(0));
-    insert(two, tree, 6, 60, Leaf(3))
+pub(crate) fn insertions(rt: &impl Print, fresh: Card, tree: &mut [u64]) -> io::Result<Card> {
+    let one = insert(rt, fresh, tree, 7, 70, Leaf(0))?;
+    let two = insert(rt, one, tree, 5, 50, Leaf(0))?;
+    insert(rt, two, tree, 6, 60, Leaf(3))
 }
 
 // Lines 6 to 9: the second Delete finds nothing, and then no event is left.
-pub(crate) fn removals(full: Card, tree: &mut [u64]) -> Card {
-    let one = extract(full, tree);
-    let two = delete(one, tree, Leaf(0), Stamp(0));
-    let three = delete(two, tree, Leaf(0), Stamp(0));
-    extract(three, tree)
+pub(crate) fn removals(rt: &impl Print, full: Card, tree: &mut [u64]) -> io::Result<Card> {
+    let one = extract(rt, full, tree)?;
+    let two = delete(rt, one, tree, Leaf(0), Stamp(0))?;
+    let three = delete(rt, two, tree, Leaf(0), Stamp(0))?;
+    extract(rt, three, tree)
 }

@@ -3,19 +3,20 @@
 // of the definitions themselves.
 #![tactic(auto)]
 
-ghost use Rattle.std.specs.Prelude.{◌≤◌, length};
+ghost use Rattle.std.specs.Prelude.{◌≤◌, length, IfOk};
 
-use libc::{STDIN_FILENO, STDOUT_FILENO};
 use lines::Line;
 use request::Request;
+use std::io;
+use std::io::Read;
 
-fn show(numbers: &[u64]) {
+fn show(rt: &impl Print, numbers: &[u64]) -> io::Result<()> {
     let mut out = [0u8; 128];
     let n = frames::print_answer(numbers, &mut out);
-    io::write_all(STDOUT_FILENO, &out[..n]);
+    rt.write_all(&out[..n])
 }
 
-fn ask(request: Request) {
+fn ask(rt: &impl Print, request: Request) -> io::Result<()> {
     match request {
         Request::Insert {
             key,
@@ -23,27 +24,25 @@ fn ask(request: Request) {
             label,
             first,
             second,
-        } => show(&[2, key, value, label.0, first.0, second.0]),
-        Request::Extract => show(&[4]),
-        Request::Delete { label, stamp } => show(&[5, label.0, stamp.0]),
+        } => show(rt, &[2, key, value, label.0, first.0, second.0]),
+        Request::Extract => show(rt, &[4]),
+        Request::Delete { label, stamp } => show(rt, &[5, label.0, stamp.0]),
     }
 }
 
-fn say(line: &[u8]) {
+fn say(rt: &impl Print, line: &[u8]) -> io::Result<()> {
     match lines::read_line(line) {
-        Line::Unreadable => {
-            io::write_all(STDOUT_FILENO, b"?\n");
-        }
-        Line::Size { h, z, r, t } => show(&[1, h, z, r, t]),
-        Line::Min => show(&[3]),
-        Line::Ask(request) => ask(request),
+        Line::Unreadable => rt.write_all(b"?\n"),
+        Line::Size { h, z, r, t } => show(rt, &[1, h, z, r, t]),
+        Line::Min => show(rt, &[3]),
+        Line::Ask(request) => ask(rt, request),
     }
 }
 
 // Says the lines that end in the chunk, and answers how much of the next is held.
-fn feed(buffer: &mut [u8], before: usize, chunk: &[u8]) -> usize
+fn feed(rt: &impl Print, buffer: &mut [u8], before: usize, chunk: &[u8]) -> io::Result<usize>
     requires { before ≤ length buffer.old }
-    ensures { result ≤ length buffer.old }
+    ensures { IfOk result (λ held. held ≤ length buffer.old) }
 {
     let mut held = before;
     let mut from = 0;
@@ -52,30 +51,29 @@ fn feed(buffer: &mut [u8], before: usize, chunk: &[u8]) -> usize
         from = taken.next;
         held = taken.held;
         if taken.ended {
-            say(&buffer[..held]);
+            say(rt, &buffer[..held])?;
             held = 0;
         }
     }
-    held
+    Ok(held)
 }
 
-// A proved loop has to end, and nothing says that the input does, so that the turns are counted down from a number that no run
+// A proved loop has to end, and nothing says that the input does, so that the turns are counted up to a number that no run
 // uses up.
-fn main() {
+fn main(rt: HostRuntime) -> io::Result<()> {
+    let mut input = rt.stdin();
     let mut buffer = [0u8; 129];
     let mut chunk = [0u8; 7];
     let mut held = 0;
-    let mut turns = u64::MAX;
-    while turns > 0 {
-        let got = libc::read(STDIN_FILENO, &mut chunk);
-        let n = io::count(got, &chunk);
+    for _ in 0..u64::MAX {
+        let n = input.read(&mut chunk)?;
         if n == 0 {
             break;
         }
-        held = feed(&mut buffer, held, &chunk[..n]);
-        turns -= 1;
+        held = feed(&rt, &mut buffer, held, &chunk[..n])?;
     }
     if held > 0 {
-        say(&buffer[..held]);
+        say(&rt, &buffer[..held])?;
     }
+    Ok(())
 }

@@ -2,18 +2,21 @@
 // left. docs/PROBE.md has the frames. For comparing the proved code with another program, call by call.
 //
 // Nothing here is promised but that it is safe and ends: no contract can say what is read or written. Stands on
-// `image`, `told`, `driver`, `io` and `libc`.
+// `image`, `told` and `driver`.
 #![tactic(auto)]
 
 mod frame;
 mod play;
 mod words;
 
-// A proved loop has to end, and nothing says that the input does: the turns are counted down from a number that no run
-// uses up.
-fn main() {
-    let mut turns = u64::MAX;
-    while turns > 0 && frame::answer_one() {
-        turns -= 1;
+use std::io;
+
+// A proved loop has to end, and nothing says that the input does: the turns are counted up to a number that no run uses up.
+fn main(rt: HostRuntime) -> io::Result<()> {
+    for _ in 0..u64::MAX {
+        if !frame::answer_one(&rt)? {
+            break;
+        }
     }
+    Ok(())
 }

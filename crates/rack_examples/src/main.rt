@@ -3,14 +3,16 @@
 // themselves.
 #![tactic(auto)]
 
-mod copies;
+mod copied;
 mod line;
 mod refusals;
 
-fn main() {
-    copies::fresh();
-    copies::fetched();
-    copies::stored();
-    refusals::copies();
-    refusals::fills();
+use std::io;
+
+fn main(rt: HostRuntime) -> io::Result<()> {
+    copied::fresh(&rt)?;
+    copied::fetched(&rt)?;
+    copied::stored(&rt)?;
+    refusals::copies(&rt)?;
+    refusals::fills(&rt)
 }

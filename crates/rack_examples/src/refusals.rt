@@ -1,7 +1,8 @@
 // Each refusal, alone and beside a later one. A tree of sevens and words of nines show what was changed: nothing, where a
 // call is refused.
-use crate::copies::P12;
+use crate::copied::P12;
 use crate::line;
+use std::io;
 
 const TOP: u64 = 18446744073709551615;
 
@@ -21,6 +22,7 @@ fn others(words: &[u64], n: u64) -> u64 {
 }
 
 fn copy_in(
+    rt: &impl Print,
     h: u64,
     z: u64,
     tree: &mut [u64],
@@ -28,18 +30,19 @@ fn copy_in(
     whole: usize,
     least: usize,
     words: &mut [u64],
-) {
+) -> io::Result<()> {
     let first = rack::fetch(h, z, tree, list, whole, least, words);
     let second = rack::store(h, z, tree, list, whole, least, words);
-    line::number(first.number());
-    line::number(second.number());
-    line::number(others(words, 9));
-    line::number(others(tree, 7));
-    line::end();
+    line::number(rt, first.number())?;
+    line::number(rt, second.number())?;
+    line::number(rt, others(words, 9))?;
+    line::number(rt, others(tree, 7))?;
+    line::end(rt)
 }
 
 // A fetch and a store with a tree and words of these lengths.
 fn copy_line(
+    rt: &impl Print,
     h: u64,
     z: u64,
     tree_words: usize,
@@ -47,16 +50,17 @@ fn copy_line(
     whole: usize,
     least: usize,
     words: usize,
-) {
+) -> io::Result<()> {
     let mut tree = [7u64; 64];
     let mut fetched = [9u64; 64];
     if tree_words > 64 {
-        return;
+        return Ok(());
     }
     if words > 64 {
-        return;
+        return Ok(());
     }
     copy_in(
+        rt,
         h,
         z,
         &mut tree[..tree_words],
@@ -64,16 +68,17 @@ fn copy_line(
         whole,
         least,
         &mut fetched[..words],
-    );
+    )
 }
 
 // A line for each name: h, Z, the tree's words, both counts and the words.
-fn table(names: &[u8], cases: &[u64], list: &[u64]) {
+fn table(rt: &impl Print, names: &[u8], cases: &[u64], list: &[u64]) -> io::Result<()> {
     let mut at = 0;
     let mut i = 0;
     while i + 5 < cases.len() {
-        at = line::next_name(names, at);
+        at = line::next_name(rt, names, at)?;
         copy_line(
+            rt,
             cases[i],
             cases[i + 1],
             cases[i + 2] as usize,
@@ -81,115 +86,122 @@ fn table(names: &[u8], cases: &[u64], list: &[u64]) {
             cases[i + 3] as usize,
             cases[i + 4] as usize,
             cases[i + 5] as usize,
-        );
+        )?;
         i += 6;
     }
+    Ok(())
 }
 
-pub(crate) fn copies() {
-    line::name(b"fetch, store, words changed, tree words changed");
-    line::end();
+pub(crate) fn copies(rt: &impl Print) -> io::Result<()> {
+    line::name(rt, b"fetch, store, words changed, tree words changed")?;
+    line::end(rt)?;
     let list = P12;
-    taken(&list);
-    sizes(&list);
-    rooms(&list);
-    buckets();
+    taken(rt, &list)?;
+    sizes(rt, &list)?;
+    rooms(rt, &list)?;
+    buckets(rt)?;
     let late = [2u64, 5, 3, 6, 4, 8];
-    siblings(&late);
-    pairs(&late);
+    siblings(rt, &late)?;
+    pairs(rt, &late)
 }
 
-fn taken(list: &[u64]) {
+fn taken(rt: &impl Print, list: &[u64]) -> io::Result<()> {
     table(
+        rt,
         b"the list of P12:\nnothing asked for:\n",
         &[2u64, 1, 48, 4, 2, 40, 2, 1, 48, 0, 0, 0],
         list,
-    );
+    )
 }
 
-fn sizes(list: &[u64]) {
+fn sizes(rt: &impl Print, list: &[u64]) -> io::Result<()> {
     table(
+        rt,
         b"height 0:\nheight 17:\nheight 2^64 - 1:\nno slots:\n6 slots:\n",
         &[
             0u64, 1, 48, 4, 2, 40, 17, 1, 48, 4, 2, 40, TOP, 1, 48, 4, 2, 40, 2, 0, 48, 4, 2, 40,
             2, 6, 48, 4, 2, 40,
         ],
         list,
-    );
+    )
 }
 
-fn rooms(list: &[u64]) {
+fn rooms(rt: &impl Print, list: &[u64]) -> io::Result<()> {
     table(
+        rt,
         b"a tree one word short:\na tree one word long:\none count too many:\nwhole 2^64 - 1 and least 2:\n",
         &[
             2u64, 1, 47, 4, 2, 40, 2, 1, 49, 4, 2, 40, 2, 1, 48, 4, 3, 44, 2, 1, 48, TOP, 2, 40,
         ],
         list,
-    );
+    )?;
     table(
+        rt,
         b"whole 1 and least 2^64 - 1:\nboth counts 2^63:\nwords one short:\nwords for the whole only:\n",
         &[
             2u64, 1, 48, 1, TOP, 40, 2, 1, 48, HALF, HALF, 40, 2, 1, 48, 4, 2, 39, 2, 1, 48, 4, 2,
             32,
         ],
         list,
-    );
+    )
 }
 
 // Two numbers, both whole.
-fn bucket_line(text: &[u8], list: &[u64]) {
-    line::name(text);
-    copy_line(2, 1, 48, list, 2, 0, 16);
+fn bucket_line(rt: &impl Print, text: &[u8], list: &[u64]) -> io::Result<()> {
+    line::name(rt, text)?;
+    copy_line(rt, 2, 1, 48, list, 2, 0, 16)
 }
 
-fn buckets() {
-    bucket_line(b"bucket 0:", &[2u64, 0]);
-    bucket_line(b"bucket 1:", &[1u64, 2]);
-    bucket_line(b"bucket 8:", &[2u64, 8]);
-    bucket_line(b"bucket 2^64 - 1:", &[TOP, 2]);
+fn buckets(rt: &impl Print) -> io::Result<()> {
+    bucket_line(rt, b"bucket 0:", &[2u64, 0])?;
+    bucket_line(rt, b"bucket 1:", &[1u64, 2])?;
+    bucket_line(rt, b"bucket 8:", &[2u64, 8])?;
+    bucket_line(rt, b"bucket 2^64 - 1:", &[TOP, 2])
 }
 
-fn siblings(list: &[u64]) {
+fn siblings(rt: &impl Print, list: &[u64]) -> io::Result<()> {
     table(
+        rt,
         b"a sibling 8:\n8 past the counts:\n",
         &[2u64, 1, 48, 4, 2, 40, 2, 1, 48, 4, 1, 40],
         list,
-    );
+    )
 }
 
 // Two that apply at once: the earlier in the paper's order is given.
-fn pairs(list: &[u64]) {
+fn pairs(rt: &impl Print, list: &[u64]) -> io::Result<()> {
     table(
+        rt,
         b"1 before 11:\n1 before 14:\na tree of another length before 14:\ncounts before 14:\nwords before 14:\n",
         &[
             0u64, 1, 47, 4, 1, 40, 2, 6, 48, 4, 2, 40, 2, 1, 47, 4, 2, 40, 2, 1, 48, 4, 3, 44, 2,
             1, 48, 4, 2, 39,
         ],
         list,
-    );
+    )
 }
 
-fn fill_in(text: &[u8], h: u64, tree: &mut [u64]) {
+fn fill_in(rt: &impl Print, text: &[u8], h: u64, tree: &mut [u64]) -> io::Result<()> {
     let done = rack::fill(tree, h, 1);
-    line::name(text);
-    line::number(done.number());
-    line::number(others(tree, 7));
-    line::end();
+    line::name(rt, text)?;
+    line::number(rt, done.number())?;
+    line::number(rt, others(tree, 7))?;
+    line::end(rt)
 }
 
-fn fill_line(text: &[u8], h: u64, tree_words: usize) {
+fn fill_line(rt: &impl Print, text: &[u8], h: u64, tree_words: usize) -> io::Result<()> {
     let mut tree = [7u64; 64];
     if tree_words > 64 {
-        return;
+        return Ok(());
     }
-    fill_in(text, h, &mut tree[..tree_words]);
+    fill_in(rt, text, h, &mut tree[..tree_words])
 }
 
-pub(crate) fn fills() {
-    line::name(b"fill, tree words changed");
-    line::end();
-    fill_line(b"height 0:", 0, 48);
-    fill_line(b"47 words:", 2, 47);
-    fill_line(b"height 17 and 47 words:", 17, 47);
-    fill_line(b"48 words:", 2, 48);
+pub(crate) fn fills(rt: &impl Print) -> io::Result<()> {
+    line::name(rt, b"fill, tree words changed")?;
+    line::end(rt)?;
+    fill_line(rt, b"height 0:", 0, 48)?;
+    fill_line(rt, b"47 words:", 2, 47)?;
+    fill_line(rt, b"height 17 and 47 words:", 17, 47)?;
+    fill_line(rt, b"48 words:", 2, 48)
 }

@@ -2,36 +2,41 @@
 ghost use Rattle.std.specs.Prelude.{◌+◌, ◌*◌, ◌≤◌, length};
 
 use crate::line;
+use std::io;
 
 // The list of P12: four whole buckets, then two siblings.
 pub(crate) const P12: [u64; 6] = [2, 5, 3, 6, 4, 7];
 
-pub(crate) fn fresh() {
+pub(crate) fn fresh(rt: &impl Print) -> io::Result<()> {
     let mut tree = [7u64; 16];
     let done = rack::fill(&mut tree, 1, 1);
-    line::answer(b"fill of height 1 with 1 slot:", done.number());
-    line::parts(b"bucket", &[2u64, 3], 8, &tree);
+    line::answer(rt, b"fill of height 1 with 1 slot:", done.number())?;
+    line::parts(rt, b"bucket", &[2u64, 3], 8, &tree)
 }
 
 // The words fetched for a list whose first `whole` numbers are whole, and those past it.
-fn fetch_lines(list: &[u64], whole: usize, words: &[u64])
+fn fetch_lines(rt: &impl Print, list: &[u64], whole: usize, words: &[u64]) -> io::Result<()>
     requires { (whole ≤ length list.now) × (4 * (whole + length list.now) ≤ length words.now) }
 {
     let split = 8 * whole;
     let end = split + 4 * (list.len() - whole);
-    line::parts(b"bucket", &list[0..whole], 8, words);
-    line::parts(b"least of", &list[whole..], 4, &words[split..]);
-    line::words(b"past the list:", &words[end..]);
+    line::parts(rt, b"bucket", &list[0..whole], 8, words)?;
+    line::parts(rt, b"least of", &list[whole..], 4, &words[split..])?;
+    line::words(rt, b"past the list:", &words[end..])
 }
 
-pub(crate) fn fetched() {
+pub(crate) fn fetched(rt: &impl Print) -> io::Result<()> {
     let mut tree = [7u64; 48];
     rack::fill(&mut tree, 2, 1);
     let list = P12;
     let mut words = [9u64; 44];
     let done = rack::fetch(2, 1, &tree, &list, 4, 2, &mut words);
-    line::answer(b"fetch of the list of P12 in a fresh tree:", done.number());
-    fetch_lines(&list, 4, &words);
+    line::answer(
+        rt,
+        b"fetch of the list of P12 in a fresh tree:",
+        done.number(),
+    )?;
+    fetch_lines(rt, &list, 4, &words)
 }
 
 // Numbers that follow each other, so that each word shows where it came from.
@@ -47,54 +52,64 @@ fn number_from(words: &mut [u64], first: u64)
     }
 }
 
-fn store_from(text: &[u8], tree: &mut [u64], list: &[u64], whole: usize, least: usize, first: u64)
+fn store_from(
+    rt: &impl Print,
+    text: &[u8],
+    tree: &mut [u64],
+    list: &[u64],
+    whole: usize,
+    least: usize,
+    first: u64,
+) -> io::Result<()>
     requires { first ≤ 900 }
 {
     let mut words = [9u64; 44];
     number_from(&mut words, first);
     let done = rack::store(2, 1, tree, list, whole, least, &words);
-    line::answer(text, done.number());
+    line::answer(rt, text, done.number())
 }
 
-pub(crate) fn stored() {
+pub(crate) fn stored(rt: &impl Print) -> io::Result<()> {
     let mut tree = [7u64; 48];
     rack::fill(&mut tree, 2, 1);
     let list = P12;
     store_from(
+        rt,
         b"store of changed words by the list of P12:",
         &mut tree,
         &list,
         4,
         2,
         100,
-    );
-    line::parts(b"bucket", &[2u64, 3, 4, 5, 6, 7], 8, &tree);
-    fetched_again(&tree);
-    stored_twice(&mut tree);
+    )?;
+    line::parts(rt, b"bucket", &[2u64, 3, 4, 5, 6, 7], 8, &tree)?;
+    fetched_again(rt, &tree)?;
+    stored_twice(rt, &mut tree)
 }
 
-fn fetched_again(tree: &[u64]) {
+fn fetched_again(rt: &impl Print, tree: &[u64]) -> io::Result<()> {
     let list = [6u64, 2, 5];
     let mut words = [9u64; 24];
     let done = rack::fetch(2, 1, tree, &list, 2, 1, &mut words);
     line::answer(
+        rt,
         b"fetch of 6 and 2 whole, of 5 the least record:",
         done.number(),
-    );
-    fetch_lines(&list, 2, &words);
+    )?;
+    fetch_lines(rt, &list, 2, &words)
 }
 
 // "of one number named twice the later store stands"
-fn stored_twice(tree: &mut [u64]) {
-    store_from(b"store of bucket 2 twice:", tree, &[2u64, 2], 2, 0, 200);
-    line::parts(b"bucket", &[2u64, 3], 8, tree);
-    fetched_twice(tree);
+fn stored_twice(rt: &impl Print, tree: &mut [u64]) -> io::Result<()> {
+    store_from(rt, b"store of bucket 2 twice:", tree, &[2u64, 2], 2, 0, 200)?;
+    line::parts(rt, b"bucket", &[2u64, 3], 8, tree)?;
+    fetched_twice(rt, tree)
 }
 
-fn fetched_twice(tree: &[u64]) {
+fn fetched_twice(rt: &impl Print, tree: &[u64]) -> io::Result<()> {
     let list = [2u64, 2];
     let mut words = [9u64; 16];
     let done = rack::fetch(2, 1, tree, &list, 2, 0, &mut words);
-    line::answer(b"fetch of bucket 2 twice:", done.number());
-    line::parts(b"bucket", &list, 8, &words);
+    line::answer(rt, b"fetch of bucket 2 twice:", done.number())?;
+    line::parts(rt, b"bucket", &list, 8, &words)
 }
