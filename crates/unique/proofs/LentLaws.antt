@@ -12,7 +12,7 @@ use Rattle.card.specs.Answers.{Answered}
 use Rattle.card.specs.Calls.{Begins}
 use Rattle.card.specs.Finish.{Finishes}
 use Rattle.lent.specs.Handed.{handed}
-use Rattle.unique.proofs.OneLaws.{one_seen}
+use Rattle.unique.proofs.OneLaws.{one-seen}
 
 -- what stands where the card was lent and is answered, and the lent slice
 module _ {left later : Card} {a b : Answer} where
@@ -24,7 +24,7 @@ module _ {left later : Card} {a b : Answer} where
       (k : Card) (number : ℕ) (done : Done) → Answered k number done (handed left a) → Answered k number done (handed later b)
       → (left ≡ later) × (a ≡ b)
   one-call k number done p q =
-      parts (one_seen (λ (d : Done). Answered k number done d) (λ d. d) _ (λ d h. h.whole) (handed left a) (handed later b) p q)
+      parts (one-seen (λ (d : Done). Answered k number done d) (λ d. d) _ (λ d h. h.whole) (handed left a) (handed later b) p q)
 
   -- begin
   pub one-begin :
@@ -32,7 +32,7 @@ module _ {left later : Card} {a b : Answer} where
       → Begins k r list again (handed later b) → ((left ≡ later) × (a ≡ b)) × (after ≡ again)
   one-begin k r list after again p q =
       let one =
-      one_seen (λ (o : Done × List ℕ). Begins k r list o.1 o.0) (λ o. o) _ (λ o h i. (h.call.whole i, h.places i))
+      one-seen (λ (o : Done × List ℕ). Begins k r list o.1 o.0) (λ o. o) _ (λ o h i. (h.call.whole i, h.places i))
       (handed left a, after) (handed later b, again) p q in
       (parts (ap (λ o. o.0) one), ap (λ o. o.1) one)
 
@@ -41,6 +41,6 @@ module _ {left later : Card} {a b : Answer} where
       → ((left ≡ later) × (a ≡ b)) × (after ≡ again)
   one-finish k words after again p q =
       let one =
-      one_seen (λ (o : Done × List ℕ). Finishes k words o.1 o.0) (λ o. o) _ (λ o h i. (h.call.whole i, h.words i))
+      one-seen (λ (o : Done × List ℕ). Finishes k words o.1 o.0) (λ o. o) _ (λ o h i. (h.call.whole i, h.words i))
       (handed left a, after) (handed later b, again) p q in
       (parts (ap (λ o. o.0) one), ap (λ o. o.1) one)
