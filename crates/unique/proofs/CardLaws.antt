@@ -2,7 +2,7 @@
 -- Assumes nothing.
 use mathlib.Core.Path.{refl}
 use Rattle.unique.specs.One.{Determines}
-use Rattle.unique.proofs.OneLaws.{one_answer}
+use Rattle.unique.proofs.OneLaws.{one-answer}
 use Rattle.card.proofs.Card.fresh.Kinds as fresh-kinds
 use Rattle.card.proofs.Card.fresh.Reads as fresh
 use Rattle.card.proofs.Card.start.Kinds as start-kinds
@@ -18,30 +18,30 @@ use Rattle.card.proofs.Card.withdraw.Reads as withdraw
 
 pub one-fresh : Determines 0 fresh-kinds.ps fresh-kinds.r fresh.Asked fresh.Learnt
 one-fresh =
-    one_answer 0 fresh-kinds.ps fresh-kinds.r fresh.Asked fresh.Learnt _ _
+    one-answer 0 fresh-kinds.ps fresh-kinds.r fresh.Asked fresh.Learnt _ _
     (λ κs a ok x xs f p. (p, refl))
 
 pub one-start : Determines 0 start-kinds.ps start-kinds.r start.Asked start.Learnt
 one-start =
-    one_answer 0 start-kinds.ps start-kinds.r start.Asked start.Learnt _ _
+    one-answer 0 start-kinds.ps start-kinds.r start.Asked start.Learnt _ _
     (λ κs a ok x xs f p. (p.whole, refl))
 
 pub one-begin : Determines 1 begin-kinds.ps begin-kinds.r begin.Asked begin.Learnt
 one-begin =
-    one_answer 1 begin-kinds.ps begin-kinds.r begin.Asked begin.Learnt _ _
+    one-answer 1 begin-kinds.ps begin-kinds.r begin.Asked begin.Learnt _ _
     (λ κs a ok x xs f p. (p.call.whole, λ i. (tt, (tt, (p.places i, tt)))))
 
 pub one-find-min : Determines 0 find-min-kinds.ps find-min-kinds.r find-min.Asked find-min.Learnt
 one-find-min =
-    one_answer 0 find-min-kinds.ps find-min-kinds.r find-min.Asked find-min.Learnt _ _
+    one-answer 0 find-min-kinds.ps find-min-kinds.r find-min.Asked find-min.Learnt _ _
     (λ κs a ok x xs f p. (p.whole, refl))
 
 pub one-finish : Determines 1 finish-kinds.ps finish-kinds.r finish.Asked finish.Learnt
 one-finish =
-    one_answer 1 finish-kinds.ps finish-kinds.r finish.Asked finish.Learnt _ _
+    one-answer 1 finish-kinds.ps finish-kinds.r finish.Asked finish.Learnt _ _
     (λ κs a ok x xs f p. (p.call.whole, λ i. (tt, (p.words i, tt))))
 
 pub one-withdraw : Determines 0 withdraw-kinds.ps withdraw-kinds.r withdraw.Asked withdraw.Learnt
 one-withdraw =
-    one_answer 0 withdraw-kinds.ps withdraw-kinds.r withdraw.Asked withdraw.Learnt _ _
+    one-answer 0 withdraw-kinds.ps withdraw-kinds.r withdraw.Asked withdraw.Learnt _ _
     (λ κs a ok x xs f p. (p.whole, refl))

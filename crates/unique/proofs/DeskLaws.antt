@@ -3,13 +3,13 @@
 use mathlib.Core.Path.{refl}
 use Rattle.rounds.proofs.RoundLaws.{comes-to}
 use Rattle.unique.specs.One.{Determines}
-use Rattle.unique.proofs.OneLaws.{one_answer}
+use Rattle.unique.proofs.OneLaws.{one-answer}
 use Rattle.rounds.proofs.play.Kinds as play-kinds
 use Rattle.rounds.proofs.play.Reads as play
 use Rattle.steps.proofs.unread_by.Kinds as unread-by-kinds
 use Rattle.steps.proofs.unread_by.Reads as unread-by
 use Rattle.steps.proofs.kept_by.Kinds as kept-by-kinds
-use Rattle.steps.proofs.kept_by.Reads as kept_by
+use Rattle.steps.proofs.kept_by.Reads as kept-by
 use Rattle.steps.proofs.told_by.Kinds as told-by-kinds
 use Rattle.steps.proofs.told_by.Reads as told-by
 use Rattle.steps.proofs.tree_words.Kinds as tree-words-kinds
@@ -33,65 +33,65 @@ use Rattle.replies.proofs.answer_line.Reads as answer-line
 
 pub one-play : Determines 1 play-kinds.ps play-kinds.r play.Asked play.Learnt
 one-play =
-    one_answer 1 play-kinds.ps play-kinds.r play.Asked play.Learnt _ _
+    one-answer 1 play-kinds.ps play-kinds.r play.Asked play.Learnt _ _
     (λ κs a ok x xs f p. ((comes-to _ _ _ _ _ p).0, λ i. (tt, (tt, ((comes-to _ _ _ _ _ p).1 i, tt)))))
 
 pub one-unread-by : Determines 0 unread-by-kinds.ps unread-by-kinds.r unread-by.Asked unread-by.Learnt
 one-unread-by =
-    one_answer 0 unread-by-kinds.ps unread-by-kinds.r unread-by.Asked unread-by.Learnt _ _
+    one-answer 0 unread-by-kinds.ps unread-by-kinds.r unread-by.Asked unread-by.Learnt _ _
     (λ κs a ok x xs f p. (p, refl))
 
-pub one-kept-by : Determines 0 kept-by-kinds.ps kept-by-kinds.r kept_by.Asked kept_by.Learnt
+pub one-kept-by : Determines 0 kept-by-kinds.ps kept-by-kinds.r kept-by.Asked kept-by.Learnt
 one-kept-by =
-    one_answer 0 kept-by-kinds.ps kept-by-kinds.r kept_by.Asked kept_by.Learnt _ _
+    one-answer 0 kept-by-kinds.ps kept-by-kinds.r kept-by.Asked kept-by.Learnt _ _
     (λ κs a ok x xs f p. (p, refl))
 
 pub one-told-by : Determines 0 told-by-kinds.ps told-by-kinds.r told-by.Asked told-by.Learnt
 one-told-by =
-    one_answer 0 told-by-kinds.ps told-by-kinds.r told-by.Asked told-by.Learnt _ _
+    one-answer 0 told-by-kinds.ps told-by-kinds.r told-by.Asked told-by.Learnt _ _
     (λ κs a ok x xs f p. (p, refl))
 
 pub one-tree-words : Determines 0 tree-words-kinds.ps tree-words-kinds.r tree-words.Asked tree-words.Learnt
 one-tree-words =
-    one_answer 0 tree-words-kinds.ps tree-words-kinds.r tree-words.Asked tree-words.Learnt _ _
+    one-answer 0 tree-words-kinds.ps tree-words-kinds.r tree-words.Asked tree-words.Learnt _ _
     (λ κs a ok x xs f p. (p, refl))
 
 pub one-used : Determines 0 used-kinds.ps used-kinds.r used.Asked used.Learnt
 one-used =
-    one_answer 0 used-kinds.ps used-kinds.r used.Asked used.Learnt _ _
+    one-answer 0 used-kinds.ps used-kinds.r used.Asked used.Learnt _ _
     (λ κs a ok x xs f p. (p, refl))
 
 pub one-ask : Determines 1 ask-kinds.ps ask-kinds.r ask.Asked ask.Learnt
 one-ask =
-    one_answer 1 ask-kinds.ps ask-kinds.r ask.Asked ask.Learnt _ _
+    one-answer 1 ask-kinds.ps ask-kinds.r ask.Asked ask.Learnt _ _
     (λ κs a ok x xs f p. (p.said, λ i. (tt, (tt, (p.lent i, tt)))))
 
-pub one_size : Determines 1 size-kinds.ps size-kinds.r size.Asked size.Learnt
-one_size =
-    one_answer 1 size-kinds.ps size-kinds.r size.Asked size.Learnt _ _
+pub one-size : Determines 1 size-kinds.ps size-kinds.r size.Asked size.Learnt
+one-size =
+    one-answer 1 size-kinds.ps size-kinds.r size.Asked size.Learnt _ _
     (λ κs a ok x xs f p. (p.said, λ i. (tt, (tt, (tt, (tt, (tt, (p.lent i, tt))))))))
 
 pub one-min : Determines 0 min-kinds.ps min-kinds.r min.Asked min.Learnt
 one-min =
-    one_answer 0 min-kinds.ps min-kinds.r min.Asked min.Learnt _ _
+    one-answer 0 min-kinds.ps min-kinds.r min.Asked min.Learnt _ _
     (λ κs a ok x xs f p. (p, refl))
 
 pub one-step : Determines 1 step-kinds.ps step-kinds.r step.Asked step.Learnt
 one-step =
-    one_answer 1 step-kinds.ps step-kinds.r step.Asked step.Learnt _ _
+    one-answer 1 step-kinds.ps step-kinds.r step.Asked step.Learnt _ _
     (λ κs a ok x xs f p. (p.said, λ i. (tt, (tt, (p.lent i, tt)))))
 
 pub one-print-said : Determines 1 print-said-kinds.ps print-said-kinds.r print-said.Asked print-said.Learnt
 one-print-said =
-    one_answer 1 print-said-kinds.ps print-said-kinds.r print-said.Asked print-said.Learnt _ _
+    one-answer 1 print-said-kinds.ps print-said-kinds.r print-said.Asked print-said.Learnt _ _
     (λ κs a ok x xs f p. (p.counted, λ i. (tt, (p.lent i, tt))))
 
 pub one-print-reply : Determines 1 print-reply-kinds.ps print-reply-kinds.r print-reply.Asked print-reply.Learnt
 one-print-reply =
-    one_answer 1 print-reply-kinds.ps print-reply-kinds.r print-reply.Asked print-reply.Learnt _ _
+    one-answer 1 print-reply-kinds.ps print-reply-kinds.r print-reply.Asked print-reply.Learnt _ _
     (λ κs a ok x xs f p. (p.counted, λ i. (tt, (p.lent i, tt))))
 
 pub one-answer-line : Determines 3 answer-line-kinds.ps answer-line-kinds.r answer-line.Asked answer-line.Learnt
 one-answer-line =
-    one_answer 3 answer-line-kinds.ps answer-line-kinds.r answer-line.Asked answer-line.Learnt _ _
+    one-answer 3 answer-line-kinds.ps answer-line-kinds.r answer-line.Asked answer-line.Learnt _ _
     (λ κs a ok x xs f p. (λ i. record { desk = p.state i; bytes = p.bytes.counted i }, λ i. (tt, (tt, (p.lent i, (p.bytes.lent i, tt))))))

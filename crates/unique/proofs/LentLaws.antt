@@ -1,6 +1,6 @@
--- The calls on a lent card leave one outcome: one answer, one card where it was lent, and one content of each lent slice. The kit gives a contract that has
--- a reference to a struct no plain reading, so this is said of the definitions that the contracts of `lent` cite, at what stands there
--- afterwards; the law is the one that serves all. Assumes nothing.
+-- The calls on a lent card leave one outcome: one answer, one card where it was lent, and one content of each lent slice. It is said of the definitions
+-- that the contracts of `lent` cite, at what stands there afterwards, and then of each function, by its own contract; the law is the one that serves
+-- all. Assumes nothing.
 use Prim.Native.Nat.{ℕ}
 use mathlib.Core.List.{List}
 use mathlib.Core.Path.{◌≡◌, ap}
@@ -12,7 +12,18 @@ use Rattle.card.specs.Answers.{Answered}
 use Rattle.card.specs.Calls.{Begins}
 use Rattle.card.specs.Finish.{Finishes}
 use Rattle.lent.specs.Handed.{handed}
-use Rattle.unique.proofs.OneLaws.{one_seen}
+use Rattle.unique.specs.One.{Determines}
+use Rattle.unique.proofs.OneLaws.{one-seen, one-answer}
+use Rattle.lent.proofs.start.Kinds as start-kinds
+use Rattle.lent.proofs.start.Reads as start
+use Rattle.lent.proofs.begin.Kinds as begin-kinds
+use Rattle.lent.proofs.begin.Reads as begin
+use Rattle.lent.proofs.find_min.Kinds as find-min-kinds
+use Rattle.lent.proofs.find_min.Reads as find-min
+use Rattle.lent.proofs.withdraw.Kinds as withdraw-kinds
+use Rattle.lent.proofs.withdraw.Reads as withdraw
+use Rattle.lent.proofs.finish.Kinds as finish-kinds
+use Rattle.lent.proofs.finish.Reads as finish
 
 -- what stands where the card was lent and is answered, and the lent slice
 module _ {left later : Card} {a b : Answer} where
@@ -24,7 +35,7 @@ module _ {left later : Card} {a b : Answer} where
       (k : Card) (number : ℕ) (done : Done) → Answered k number done (handed left a) → Answered k number done (handed later b)
       → (left ≡ later) × (a ≡ b)
   one-call k number done p q =
-      parts (one_seen (λ (d : Done). Answered k number done d) (λ d. d) _ (λ d h. h.whole) (handed left a) (handed later b) p q)
+      parts (one-seen (λ (d : Done). Answered k number done d) (λ d. d) _ (λ d h. h.whole) (handed left a) (handed later b) p q)
 
   -- begin
   pub one-begin :
@@ -32,7 +43,7 @@ module _ {left later : Card} {a b : Answer} where
       → Begins k r list again (handed later b) → ((left ≡ later) × (a ≡ b)) × (after ≡ again)
   one-begin k r list after again p q =
       let one =
-      one_seen (λ (o : Done × List ℕ). Begins k r list o.1 o.0) (λ o. o) _ (λ o h i. (h.call.whole i, h.places i))
+      one-seen (λ (o : Done × List ℕ). Begins k r list o.1 o.0) (λ o. o) _ (λ o h i. (h.call.whole i, h.places i))
       (handed left a, after) (handed later b, again) p q in
       (parts (ap (λ o. o.0) one), ap (λ o. o.1) one)
 
@@ -41,6 +52,32 @@ module _ {left later : Card} {a b : Answer} where
       → ((left ≡ later) × (a ≡ b)) × (after ≡ again)
   one-finish k words after again p q =
       let one =
-      one_seen (λ (o : Done × List ℕ). Finishes k words o.1 o.0) (λ o. o) _ (λ o h i. (h.call.whole i, h.words i))
+      one-seen (λ (o : Done × List ℕ). Finishes k words o.1 o.0) (λ o. o) _ (λ o h i. (h.call.whole i, h.words i))
       (handed left a, after) (handed later b, again) p q in
       (parts (ap (λ o. o.0) one), ap (λ o. o.1) one)
+
+-- and of each function, by its own contract
+pub one-lent-start : Determines 1 start-kinds.ps start-kinds.r start.Asked start.Learnt
+one-lent-start =
+    one-answer 1 start-kinds.ps start-kinds.r start.Asked start.Learnt _ _
+    (λ κs a ok x xs f p. (λ i. (p.whole i).answer, λ i. ((p.whole i).card, (tt, (tt, (tt, (tt, tt)))))))
+
+pub one-lent-begin : Determines 2 begin-kinds.ps begin-kinds.r begin.Asked begin.Learnt
+one-lent-begin =
+    one-answer 2 begin-kinds.ps begin-kinds.r begin.Asked begin.Learnt _ _
+    (λ κs a ok x xs f p. (λ i. (p.call.whole i).answer, λ i. ((p.call.whole i).card, (tt, (p.places i, tt)))))
+
+pub one-lent-find-min : Determines 1 find-min-kinds.ps find-min-kinds.r find-min.Asked find-min.Learnt
+one-lent-find-min =
+    one-answer 1 find-min-kinds.ps find-min-kinds.r find-min.Asked find-min.Learnt _ _
+    (λ κs a ok x xs f p. (λ i. (p.whole i).answer, λ i. ((p.whole i).card, tt)))
+
+pub one-lent-withdraw : Determines 1 withdraw-kinds.ps withdraw-kinds.r withdraw.Asked withdraw.Learnt
+one-lent-withdraw =
+    one-answer 1 withdraw-kinds.ps withdraw-kinds.r withdraw.Asked withdraw.Learnt _ _
+    (λ κs a ok x xs f p. (λ i. (p.whole i).answer, λ i. ((p.whole i).card, tt)))
+
+pub one-lent-finish : Determines 2 finish-kinds.ps finish-kinds.r finish.Asked finish.Learnt
+one-lent-finish =
+    one-answer 2 finish-kinds.ps finish-kinds.r finish.Asked finish.Learnt _ _
+    (λ κs a ok x xs f p. (λ i. (p.call.whole i).answer, λ i. ((p.call.whole i).card, (p.words i, tt))))

@@ -6,7 +6,7 @@ use lib.ListN.{length, take, drop}
 use Rattle.frames.specs.declared.Taken.{Taken}
 use Rattle.frames.specs.Framing.{kept_of, Takes}
 use Rattle.unique.specs.One.{Determines}
-use Rattle.unique.proofs.OneLaws.{one_answer}
+use Rattle.unique.proofs.OneLaws.{one-answer}
 use Rattle.decimal.proofs.read.Kinds as read-kinds
 use Rattle.decimal.proofs.read.Reads as read
 use Rattle.decimal.proofs.width.Kinds as width-kinds
@@ -14,7 +14,7 @@ use Rattle.decimal.proofs.width.Reads as width
 use Rattle.decimal.proofs.print.Kinds as print-kinds
 use Rattle.decimal.proofs.print.Reads as print
 use Rattle.fields.proofs.end_of.Kinds as end-of-kinds
-use Rattle.fields.proofs.end_of.Reads as end_of_lem
+use Rattle.fields.proofs.end_of.Reads as end-of
 use Rattle.fields.proofs.same.Kinds as same-kinds
 use Rattle.fields.proofs.same.Reads as same
 use Rattle.fields.proofs.numbers.Kinds as numbers-kinds
@@ -37,50 +37,50 @@ kept-lent buffer old chunk from r after p =
 
 pub one-read : Determines 1 read-kinds.ps read-kinds.r read.Asked read.Learnt
 one-read =
-    one_answer 1 read-kinds.ps read-kinds.r read.Asked read.Learnt _ _
+    one-answer 1 read-kinds.ps read-kinds.r read.Asked read.Learnt _ _
     (λ κs a ok x xs f p. (p, refl))
 
-pub one_width : Determines 0 width-kinds.ps width-kinds.r width.Asked width.Learnt
-one_width =
-    one_answer 0 width-kinds.ps width-kinds.r width.Asked width.Learnt _ _
+pub one-width : Determines 0 width-kinds.ps width-kinds.r width.Asked width.Learnt
+one-width =
+    one-answer 0 width-kinds.ps width-kinds.r width.Asked width.Learnt _ _
     (λ κs a ok x xs f p. (p, refl))
 
 pub one-print : Determines 1 print-kinds.ps print-kinds.r print.Asked print.Learnt
 one-print =
-    one_answer 1 print-kinds.ps print-kinds.r print.Asked print.Learnt _ _
+    one-answer 1 print-kinds.ps print-kinds.r print.Asked print.Learnt _ _
     (λ κs a ok x xs f p. (p.counted, λ i. (tt, (p.lent i, tt))))
 
-pub one-end-of : Determines 1 end-of-kinds.ps end-of-kinds.r end_of_lem.Asked end_of_lem.Learnt
+pub one-end-of : Determines 1 end-of-kinds.ps end-of-kinds.r end-of.Asked end-of.Learnt
 one-end-of =
-    one_answer 1 end-of-kinds.ps end-of-kinds.r end_of_lem.Asked end_of_lem.Learnt _ _
+    one-answer 1 end-of-kinds.ps end-of-kinds.r end-of.Asked end-of.Learnt _ _
     (λ κs a ok x xs f p. (p, refl))
 
-pub one_same : Determines 2 same-kinds.ps same-kinds.r same.Asked same.Learnt
-one_same =
-    one_answer 2 same-kinds.ps same-kinds.r same.Asked same.Learnt _ _
+pub one-same : Determines 2 same-kinds.ps same-kinds.r same.Asked same.Learnt
+one-same =
+    one-answer 2 same-kinds.ps same-kinds.r same.Asked same.Learnt _ _
     (λ κs a ok x xs f p. (p, refl))
 
 pub one-numbers : Determines 2 numbers-kinds.ps numbers-kinds.r numbers.Asked numbers.Learnt
 one-numbers =
-    one_answer 2 numbers-kinds.ps numbers-kinds.r numbers.Asked numbers.Learnt _ _
+    one-answer 2 numbers-kinds.ps numbers-kinds.r numbers.Asked numbers.Learnt _ _
     (λ κs a ok x xs f p. (p.told, λ i. (tt, (tt, (p.these i, tt)))))
 
 pub one-read-line : Determines 1 read-line-kinds.ps read-line-kinds.r read-line.Asked read-line.Learnt
 one-read-line =
-    one_answer 1 read-line-kinds.ps read-line-kinds.r read-line.Asked read-line.Learnt _ _
+    one-answer 1 read-line-kinds.ps read-line-kinds.r read-line.Asked read-line.Learnt _ _
     (λ κs a ok x xs f p. (p, refl))
 
 pub one-print-answer : Determines 2 print-answer-kinds.ps print-answer-kinds.r print-answer.Asked print-answer.Learnt
 one-print-answer =
-    one_answer 2 print-answer-kinds.ps print-answer-kinds.r print-answer.Asked print-answer.Learnt _ _
+    one-answer 2 print-answer-kinds.ps print-answer-kinds.r print-answer.Asked print-answer.Learnt _ _
     (λ κs a ok x xs f p. (p.counted, λ i. (tt, (p.lent i, tt))))
 
 pub one-print-unreadable : Determines 1 print-unreadable-kinds.ps print-unreadable-kinds.r print-unreadable.Asked print-unreadable.Learnt
 one-print-unreadable =
-    one_answer 1 print-unreadable-kinds.ps print-unreadable-kinds.r print-unreadable.Asked print-unreadable.Learnt _ _
+    one-answer 1 print-unreadable-kinds.ps print-unreadable-kinds.r print-unreadable.Asked print-unreadable.Learnt _ _
     (λ κs a ok x xs f p. (p.counted, λ i. (p.lent i, tt)))
 
 pub one-take-line : Determines 2 take-line-kinds.ps take-line-kinds.r take-line.Asked take-line.Learnt
 one-take-line =
-    one_answer 2 take-line-kinds.ps take-line-kinds.r take-line.Asked take-line.Learnt _ _
+    one-answer 2 take-line-kinds.ps take-line-kinds.r take-line.Asked take-line.Learnt _ _
     (λ κs a ok x xs f p. (λ i. record { next = p.next i; held = p.held i; ended = p.ended i }, λ i. (kept-lent _ _ _ _ _ _ p i, (tt, (tt, (tt, tt))))))

@@ -10,9 +10,9 @@ use borrow.Fn.Kinds.{ParamKind, ResultKind, In, Out, Dens, res_t, ended_of, stay
 use Rattle.unique.specs.One.{Determines}
 
 -- Of any outcome: where a promise equates what is seen of it with one thing, what is seen is one.
-pub one_seen :
+pub one-seen :
     {X S : Type 0} (P : X → Type 0) (see : X → S) (due : S) → ((x : X) → P x → see x ≡ due) → (x y : X) → P x → P y → see x ≡ see y
-one_seen P see due equates x y p q = equates x p ∙ sym (equates y q)
+one-seen P see due equates x y p q = equates x p ∙ sym (equates y q)
 
 -- Of a contract, as the kit reads it.
 module _ (n : ℕ) (ps : List (ParamKind n)) (r : ResultKind n) (asked : In n ps) (promised : Out n ps r) where
@@ -26,10 +26,10 @@ module _ (n : ℕ) (ps : List (ParamKind n)) (r : ResultKind n) (asked : In n ps
         → (see κs x ≡ due κs a) × (xs ≡ left κs a)
 
     -- where an answer is known by what is seen of it
-    pub one_known : ((κs : Lfts n) (x y : (res_t r κs).Denot) → see κs x ≡ see κs y → x ≡ y) → Equated → Determines n ps r asked promised
-    one_known known equated κs a ok x y xs ys fx fy p q =
+    pub one-known : ((κs : Lfts n) (x y : (res_t r κs).Denot) → see κs x ≡ see κs y → x ≡ y) → Equated → Determines n ps r asked promised
+    one-known known equated κs a ok x y xs ys fx fy p q =
         let one =
-        one_seen {S = Seen κs × Lasts (ended_of n ps r) κs a}
+        one-seen {S = Seen κs × Lasts (ended_of n ps r) κs a}
         (λ (o : (res_t r κs).Denot × Lasts (ended_of n ps r) κs a).
         Fit (ended_of n ps r) (stays ps) κs a o.1 × promised κs a o.0 (at_exit (ended_of n ps r) κs a o.1))
         (λ o. (see κs o.0, o.1)) (due κs a, left κs a)
@@ -38,5 +38,5 @@ module _ (n : ℕ) (ps : List (ParamKind n)) (r : ResultKind n) (asked : In n ps
 
   -- and where all of it is seen
   module _ (due : (κs : Lfts n) → Dens κs ps → (res_t r κs).Denot) (left : (κs : Lfts n) (a : Dens κs ps) → Lasts (ended_of n ps r) κs a) where
-    pub one_answer : Equated (λ κs x. x) due left → Determines n ps r asked promised
-    one_answer = one_known (λ κs x. x) due left (λ κs x y e. e)
+    pub one-answer : Equated (λ κs x. x) due left → Determines n ps r asked promised
+    one-answer = one-known (λ κs x. x) due left (λ κs x y e. e)

@@ -4,7 +4,7 @@ use mathlib.Core.Path.{refl}
 use Rattle.rack.specs.Answers.{answer_number}
 use Rattle.rack.proofs.AnswerLaws.{answer-known}
 use Rattle.unique.specs.One.{Determines}
-use Rattle.unique.proofs.OneLaws.{one_answer, one_known}
+use Rattle.unique.proofs.OneLaws.{one-answer, one-known}
 use Rattle.copies.proofs.bucket_words.Kinds as bucket-words-kinds
 use Rattle.copies.proofs.bucket_words.Reads as bucket-words
 use Rattle.copies.proofs.tree_words.Kinds as tree-words-kinds
@@ -28,50 +28,50 @@ use Rattle.rack.proofs.store.Reads as store
 
 pub one-bucket-words : Determines 0 bucket-words-kinds.ps bucket-words-kinds.r bucket-words.Asked bucket-words.Learnt
 one-bucket-words =
-    one_answer 0 bucket-words-kinds.ps bucket-words-kinds.r bucket-words.Asked bucket-words.Learnt _ _
+    one-answer 0 bucket-words-kinds.ps bucket-words-kinds.r bucket-words.Asked bucket-words.Learnt _ _
     (λ κs a ok x xs f p. (p, refl))
 
 pub one-tree-words : Determines 0 tree-words-kinds.ps tree-words-kinds.r tree-words.Asked tree-words.Learnt
 one-tree-words =
-    one_answer 0 tree-words-kinds.ps tree-words-kinds.r tree-words.Asked tree-words.Learnt _ _
+    one-answer 0 tree-words-kinds.ps tree-words-kinds.r tree-words.Asked tree-words.Learnt _ _
     (λ κs a ok x xs f p. (p, refl))
 
 pub one-fill-dummies : Determines 1 fill-dummies-kinds.ps fill-dummies-kinds.r fill-dummies.Asked fill-dummies.Learnt
 one-fill-dummies =
-    one_answer 1 fill-dummies-kinds.ps fill-dummies-kinds.r fill-dummies.Asked fill-dummies.Learnt _ _
+    one-answer 1 fill-dummies-kinds.ps fill-dummies-kinds.r fill-dummies.Asked fill-dummies.Learnt _ _
     (λ κs a ok x xs f p. (refl, λ i. (p i, tt)))
 
 pub one-fetch-listed : Determines 3 fetch-listed-kinds.ps fetch-listed-kinds.r fetch-listed.Asked fetch-listed.Learnt
 one-fetch-listed =
-    one_answer 3 fetch-listed-kinds.ps fetch-listed-kinds.r fetch-listed.Asked fetch-listed.Learnt _ _
+    one-answer 3 fetch-listed-kinds.ps fetch-listed-kinds.r fetch-listed.Asked fetch-listed.Learnt _ _
     (λ κs a ok x xs f p. (refl, λ i. (tt, (tt, (tt, (tt, (tt, (p i, tt))))))))
 
 pub one-store-listed : Determines 3 store-listed-kinds.ps store-listed-kinds.r store-listed.Asked store-listed.Learnt
 one-store-listed =
-    one_answer 3 store-listed-kinds.ps store-listed-kinds.r store-listed.Asked store-listed.Learnt _ _
+    one-answer 3 store-listed-kinds.ps store-listed-kinds.r store-listed.Asked store-listed.Learnt _ _
     (λ κs a ok x xs f p. (refl, λ i. (tt, (p i, (tt, (tt, (tt, tt)))))))
 
-pub one_number : Determines 0 number-kinds.ps number-kinds.r number.Asked number.Learnt
-one_number =
-    one_answer 0 number-kinds.ps number-kinds.r number.Asked number.Learnt _ _
+pub one-number : Determines 0 number-kinds.ps number-kinds.r number.Asked number.Learnt
+one-number =
+    one-answer 0 number-kinds.ps number-kinds.r number.Asked number.Learnt _ _
     (λ κs a ok x xs f p. (p, refl))
 
 pub one-is-done : Determines 0 is-done-kinds.ps is-done-kinds.r is-done.Asked is-done.Learnt
 one-is-done =
-    one_answer 0 is-done-kinds.ps is-done-kinds.r is-done.Asked is-done.Learnt _ _
+    one-answer 0 is-done-kinds.ps is-done-kinds.r is-done.Asked is-done.Learnt _ _
     (λ κs a ok x xs f p. (p, refl))
 
 pub one-fill : Determines 1 fill-kinds.ps fill-kinds.r fill.Asked fill.Learnt
 one-fill =
-    one_known 1 fill-kinds.ps fill-kinds.r fill.Asked fill.Learnt (λ κs. answer_number) _ _ (λ κs. answer-known)
+    one-known 1 fill-kinds.ps fill-kinds.r fill.Asked fill.Learnt (λ κs. answer_number) _ _ (λ κs. answer-known)
     (λ κs a ok x xs f p. (p.number, λ i. (p.lent i, (tt, (tt, tt)))))
 
 pub one-fetch : Determines 3 fetch-kinds.ps fetch-kinds.r fetch.Asked fetch.Learnt
 one-fetch =
-    one_known 3 fetch-kinds.ps fetch-kinds.r fetch.Asked fetch.Learnt (λ κs. answer_number) _ _ (λ κs. answer-known)
+    one-known 3 fetch-kinds.ps fetch-kinds.r fetch.Asked fetch.Learnt (λ κs. answer_number) _ _ (λ κs. answer-known)
     (λ κs a ok x xs f p. (p.number, λ i. (tt, (tt, (tt, (tt, (tt, (tt, (p.lent i, tt)))))))))
 
-pub one_store : Determines 3 store-kinds.ps store-kinds.r store.Asked store.Learnt
-one_store =
-    one_known 3 store-kinds.ps store-kinds.r store.Asked store.Learnt (λ κs. answer_number) _ _ (λ κs. answer-known)
+pub one-store : Determines 3 store-kinds.ps store-kinds.r store.Asked store.Learnt
+one-store =
+    one-known 3 store-kinds.ps store-kinds.r store.Asked store.Learnt (λ κs. answer_number) _ _ (λ κs. answer-known)
     (λ κs a ok x xs f p. (p.number, λ i. (tt, (tt, (p.lent i, (tt, (tt, (tt, (tt, tt)))))))))

@@ -2,9 +2,9 @@
 use mathlib.Core.Path.{refl}
 use Rattle.record.specs.Standing.{rule_for}
 use Rattle.unique.specs.One.{Determines}
-use Rattle.unique.proofs.OneLaws.{one_answer}
+use Rattle.unique.proofs.OneLaws.{one-answer}
 use Rattle.record.proofs.Stamp.is_known.Kinds as is-known-kinds
-use Rattle.record.proofs.Stamp.is_known.Reads as is_Known
+use Rattle.record.proofs.Stamp.is_known.Reads as is-known
 use Rattle.record.proofs.Record.proper.Kinds as proper-kinds
 use Rattle.record.proofs.Record.proper.Reads as proper
 use Rattle.record.proofs.Record.same.Kinds as same-kinds
@@ -48,112 +48,112 @@ use Rattle.lists.proofs.list_path.Reads as list-path
 use Rattle.lists.proofs.Listed.words_moved.Kinds as words-moved-kinds
 use Rattle.lists.proofs.Listed.words_moved.Reads as words-moved
 
-pub one-is-known : Determines 0 is-known-kinds.ps is-known-kinds.r is_Known.Asked is_Known.Learnt
+pub one-is-known : Determines 0 is-known-kinds.ps is-known-kinds.r is-known.Asked is-known.Learnt
 one-is-known =
-    one_answer 0 is-known-kinds.ps is-known-kinds.r is_Known.Asked is_Known.Learnt _ _
+    one-answer 0 is-known-kinds.ps is-known-kinds.r is-known.Asked is-known.Learnt _ _
     (λ κs a ok x xs f p. (p, refl))
 
 pub one-proper : Determines 0 proper-kinds.ps proper-kinds.r proper.Asked proper.Learnt
 one-proper =
-    one_answer 0 proper-kinds.ps proper-kinds.r proper.Asked proper.Learnt _ _
+    one-answer 0 proper-kinds.ps proper-kinds.r proper.Asked proper.Learnt _ _
     (λ κs a ok x xs f p. (p, refl))
 
-pub one_same : Determines 0 same-kinds.ps same-kinds.r same.Asked same.Learnt
-one_same =
-    one_answer 0 same-kinds.ps same-kinds.r same.Asked same.Learnt _ _
+pub one-same : Determines 0 same-kinds.ps same-kinds.r same.Asked same.Learnt
+one-same =
+    one-answer 0 same-kinds.ps same-kinds.r same.Asked same.Learnt _ _
     (λ κs a ok x xs f p. (p, refl))
 
 pub one-is-dummy : Determines 0 is-dummy-kinds.ps is-dummy-kinds.r is-dummy.Asked is-dummy.Learnt
 one-is-dummy =
-    one_answer 0 is-dummy-kinds.ps is-dummy-kinds.r is-dummy.Asked is-dummy.Learnt _ _
+    one-answer 0 is-dummy-kinds.ps is-dummy-kinds.r is-dummy.Asked is-dummy.Learnt _ _
     (λ κs a ok x xs f p. (p, refl))
 
 pub one-is-proper : Determines 0 is-proper-kinds.ps is-proper-kinds.r is-proper.Asked is-proper.Learnt
 one-is-proper =
-    one_answer 0 is-proper-kinds.ps is-proper-kinds.r is-proper.Asked is-proper.Learnt _ _
+    one-answer 0 is-proper-kinds.ps is-proper-kinds.r is-proper.Asked is-proper.Learnt _ _
     (λ κs a ok x xs f p. (p, refl))
 
 pub one-may-stand : Determines 0 may-stand-kinds.ps may-stand-kinds.r may-stand.Asked may-stand.Learnt
 one-may-stand =
-    one_answer 0 may-stand-kinds.ps may-stand-kinds.r may-stand.Asked may-stand.Learnt _ _
+    one-answer 0 may-stand-kinds.ps may-stand-kinds.r may-stand.Asked may-stand.Learnt _ _
     (λ κs a ok x xs f p. (p, refl))
 
 pub one-no-later : Determines 0 no-later-kinds.ps no-later-kinds.r no-later.Asked no-later.Learnt
 one-no-later =
-    one_answer 0 no-later-kinds.ps no-later-kinds.r no-later.Asked no-later.Learnt _ _
+    one-answer 0 no-later-kinds.ps no-later-kinds.r no-later.Asked no-later.Learnt _ _
     (λ κs a ok x xs f p. (p (rule_for 0 0), refl))
 
 pub one-smaller : Determines 0 smaller-kinds.ps smaller-kinds.r smaller.Asked smaller.Learnt
 one-smaller =
-    one_answer 0 smaller-kinds.ps smaller-kinds.r smaller.Asked smaller.Learnt _ _
+    one-answer 0 smaller-kinds.ps smaller-kinds.r smaller.Asked smaller.Learnt _ _
     (λ κs a ok x xs f p. (p (rule_for 0 0), refl))
 
 pub one-read : Determines 1 read-kinds.ps read-kinds.r read.Asked read.Learnt
 one-read =
-    one_answer 1 read-kinds.ps read-kinds.r read.Asked read.Learnt _ _
+    one-answer 1 read-kinds.ps read-kinds.r read.Asked read.Learnt _ _
     (λ κs a ok x xs f p. (p, refl))
 
 pub one-write : Determines 1 write-kinds.ps write-kinds.r write.Asked write.Learnt
 one-write =
-    one_answer 1 write-kinds.ps write-kinds.r write.Asked write.Learnt _ _
+    one-answer 1 write-kinds.ps write-kinds.r write.Asked write.Learnt _ _
     (λ κs a ok x xs f p. (refl, λ i. (tt, (p i, (tt, tt)))))
 
 pub one-copy-words : Determines 2 copy-words-kinds.ps copy-words-kinds.r copy-words.Asked copy-words.Learnt
 one-copy-words =
-    one_answer 2 copy-words-kinds.ps copy-words-kinds.r copy-words.Asked copy-words.Learnt _ _
+    one-answer 2 copy-words-kinds.ps copy-words-kinds.r copy-words.Asked copy-words.Learnt _ _
     (λ κs a ok x xs f p. (refl, λ i. (p i, (tt, (tt, (tt, (tt, tt)))))))
 
 pub one-leaves : Determines 0 leaves-kinds.ps leaves-kinds.r leaves.Asked leaves.Learnt
 one-leaves =
-    one_answer 0 leaves-kinds.ps leaves-kinds.r leaves.Asked leaves.Learnt _ _
+    one-answer 0 leaves-kinds.ps leaves-kinds.r leaves.Asked leaves.Learnt _ _
     (λ κs a ok x xs f p. (p, refl))
 
 pub one-tree-in-range : Determines 0 tree-in-range-kinds.ps tree-in-range-kinds.r tree-in-range.Asked tree-in-range.Learnt
 one-tree-in-range =
-    one_answer 0 tree-in-range-kinds.ps tree-in-range-kinds.r tree-in-range.Asked tree-in-range.Learnt _ _
+    one-answer 0 tree-in-range-kinds.ps tree-in-range-kinds.r tree-in-range.Asked tree-in-range.Learnt _ _
     (λ κs a ok x xs f p. (p, refl))
 
 pub one-in-range : Determines 0 in-range-kinds.ps in-range-kinds.r in-range.Asked in-range.Learnt
 one-in-range =
-    one_answer 0 in-range-kinds.ps in-range-kinds.r in-range.Asked in-range.Learnt _ _
+    one-answer 0 in-range-kinds.ps in-range-kinds.r in-range.Asked in-range.Learnt _ _
     (λ κs a ok x xs f p. (p, refl))
 
 pub one-sibling : Determines 0 sibling-kinds.ps sibling-kinds.r sibling.Asked sibling.Learnt
 one-sibling =
-    one_answer 0 sibling-kinds.ps sibling-kinds.r sibling.Asked sibling.Learnt _ _
+    one-answer 0 sibling-kinds.ps sibling-kinds.r sibling.Asked sibling.Learnt _ _
     (λ κs a ok x xs f p. (p, refl))
 
 pub one-bucket-at : Determines 0 bucket-at-kinds.ps bucket-at-kinds.r bucket-at.Asked bucket-at.Learnt
 one-bucket-at =
-    one_answer 0 bucket-at-kinds.ps bucket-at-kinds.r bucket-at.Asked bucket-at.Learnt _ _
+    one-answer 0 bucket-at-kinds.ps bucket-at-kinds.r bucket-at.Asked bucket-at.Learnt _ _
     (λ κs a ok x xs f p. (p, refl))
 
-pub one_holds : Determines 0 holds-kinds.ps holds-kinds.r holds.Asked holds.Learnt
-one_holds =
-    one_answer 0 holds-kinds.ps holds-kinds.r holds.Asked holds.Learnt _ _
+pub one-holds : Determines 0 holds-kinds.ps holds-kinds.r holds.Asked holds.Learnt
+one-holds =
+    one-answer 0 holds-kinds.ps holds-kinds.r holds.Asked holds.Learnt _ _
     (λ κs a ok x xs f p. (p, refl))
 
 pub one-pair-counts : Determines 0 pair-counts-kinds.ps pair-counts-kinds.r pair-counts.Asked pair-counts.Learnt
 one-pair-counts =
-    one_answer 0 pair-counts-kinds.ps pair-counts-kinds.r pair-counts.Asked pair-counts.Learnt _ _
+    one-answer 0 pair-counts-kinds.ps pair-counts-kinds.r pair-counts.Asked pair-counts.Learnt _ _
     (λ κs a ok x xs f p. (p, refl))
 
 pub one-path-counts : Determines 0 path-counts-kinds.ps path-counts-kinds.r path-counts.Asked path-counts.Learnt
 one-path-counts =
-    one_answer 0 path-counts-kinds.ps path-counts-kinds.r path-counts.Asked path-counts.Learnt _ _
+    one-answer 0 path-counts-kinds.ps path-counts-kinds.r path-counts.Asked path-counts.Learnt _ _
     (λ κs a ok x xs f p. (p, refl))
 
 pub one-list-pair : Determines 1 list-pair-kinds.ps list-pair-kinds.r list-pair.Asked list-pair.Learnt
 one-list-pair =
-    one_answer 1 list-pair-kinds.ps list-pair-kinds.r list-pair.Asked list-pair.Learnt _ _
+    one-answer 1 list-pair-kinds.ps list-pair-kinds.r list-pair.Asked list-pair.Learnt _ _
     (λ κs a ok x xs f p. (p.counted, λ i. (tt, (tt, (tt, (p.places i, tt))))))
 
 pub one-list-path : Determines 1 list-path-kinds.ps list-path-kinds.r list-path.Asked list-path.Learnt
 one-list-path =
-    one_answer 1 list-path-kinds.ps list-path-kinds.r list-path.Asked list-path.Learnt _ _
+    one-answer 1 list-path-kinds.ps list-path-kinds.r list-path.Asked list-path.Learnt _ _
     (λ κs a ok x xs f p. (p.counted, λ i. (tt, (tt, (p.places i, tt)))))
 
 pub one-words-moved : Determines 0 words-moved-kinds.ps words-moved-kinds.r words-moved.Asked words-moved.Learnt
 one-words-moved =
-    one_answer 0 words-moved-kinds.ps words-moved-kinds.r words-moved.Asked words-moved.Learnt _ _
+    one-answer 0 words-moved-kinds.ps words-moved-kinds.r words-moved.Asked words-moved.Learnt _ _
     (λ κs a ok x xs f p. (p, refl))

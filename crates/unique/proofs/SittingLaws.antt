@@ -11,9 +11,9 @@ use Rattle.sitting.specs.declared.Sitting.{Sitting}
 use Rattle.sitting.specs.declared.Fed.{Fed}
 use Rattle.sitting.specs.Sitting.{state_of, open_line, heard_in, sitting_of, Feeds}
 use Rattle.unique.specs.One.{Determines}
-use Rattle.unique.proofs.OneLaws.{one_answer}
+use Rattle.unique.proofs.OneLaws.{one-answer}
 use Rattle.output.proofs.goes_on.Kinds as goes-on-kinds
-use Rattle.output.proofs.goes_on.Reads as goes_on
+use Rattle.output.proofs.goes_on.Reads as goes-on
 use Rattle.output.proofs.clear.Kinds as clear-kinds
 use Rattle.output.proofs.clear.Reads as clear
 use Rattle.sitting.proofs.open.Kinds as opening-kinds
@@ -53,27 +53,27 @@ module _ (s : Sitting) (tree chunk out : List ℕ) where
     fed-bytes =
         p.bytes ∙ ap (printed_at r.taken) p.written ∙ ap (λ (n : ℕ). printed_at n (fed_at n).written) p.taken
 
-pub one-goes-on : Determines 0 goes-on-kinds.ps goes-on-kinds.r goes_on.Asked goes_on.Learnt
+pub one-goes-on : Determines 0 goes-on-kinds.ps goes-on-kinds.r goes-on.Asked goes-on.Learnt
 one-goes-on =
-    one_answer 0 goes-on-kinds.ps goes-on-kinds.r goes_on.Asked goes_on.Learnt _ _
+    one-answer 0 goes-on-kinds.ps goes-on-kinds.r goes-on.Asked goes-on.Learnt _ _
     (λ κs a ok x xs f p. (p, refl))
 
 pub one-clear : Determines 1 clear-kinds.ps clear-kinds.r clear.Asked clear.Learnt
 one-clear =
-    one_answer 1 clear-kinds.ps clear-kinds.r clear.Asked clear.Learnt _ _
+    one-answer 1 clear-kinds.ps clear-kinds.r clear.Asked clear.Learnt _ _
     (λ κs a ok x xs f p. (refl, λ i. (p i, (tt, tt))))
 
 pub one-opening : Determines 0 opening-kinds.ps opening-kinds.r opening.Asked opening.Learnt
 one-opening =
-    one_answer 0 opening-kinds.ps opening-kinds.r opening.Asked opening.Learnt _ _
+    one-answer 0 opening-kinds.ps opening-kinds.r opening.Asked opening.Learnt _ _
     (λ κs a ok x xs f p. (p, refl))
 
 pub one-feed : Determines 3 feed-kinds.ps feed-kinds.r feed.Asked feed.Learnt
 one-feed =
-    one_answer 3 feed-kinds.ps feed-kinds.r feed.Asked feed.Learnt _ _
+    one-answer 3 feed-kinds.ps feed-kinds.r feed.Asked feed.Learnt _ _
     (λ κs a ok x xs f p. (fed-whole _ _ _ _ _ _ _ p, λ i. (tt, (fed-tree _ _ _ _ _ _ _ p i, (tt, (fed-bytes _ _ _ _ _ _ _ p i, tt))))))
 
 pub one-close : Determines 2 close-kinds.ps close-kinds.r close.Asked close.Learnt
 one-close =
-    one_answer 2 close-kinds.ps close-kinds.r close.Asked close.Learnt _ _
+    one-answer 2 close-kinds.ps close-kinds.r close.Asked close.Learnt _ _
     (λ κs a ok x xs f p. (p.bytes.counted, λ i. (tt, (p.lent i, (p.bytes.lent i, tt)))))
