@@ -1,0 +1,18 @@
+-- `find` meets its contract: what is left of the search begins at place i. Assumes nothing.
+use borrow.Author.Rules.{rules}
+use native.Mathlib.Omega.{arith}
+use Prim.Native.Nat.{◌-◌, ◌/◌, ◌≤◌}
+use lib.ListN.{length}
+use mathlib.Core.Path.{◌≡◌, sym, ◌∙◌}
+use Rattle.record.specs.Words.{records}
+use Rattle.record.proofs.WordsLaws.{records-count}
+use Rattle.way.specs.Evict.{seek}
+use Rattle.way.proofs.EvictLaws.{seek_from, seek-starts, seek_found, seek-turns, seek-ends}
+use Rattle.clearing.specs.Removal.{named}
+use Rattle.clearing.proofs.find.Given as goal
+
+abbrev pub invariant-loop-i : goal.invariant-loop-i
+invariant-loop-i l = (l.i ≤ l.n) × (seek (named l.label l.stamp) l.n (records l.w) ≡ seek_from (named l.label l.stamp) l.n l.w l.i)
+
+abbrev pub decreases-loop-i : goal.decreases-loop-i
+decreases-loop-i l = l.n - l.i

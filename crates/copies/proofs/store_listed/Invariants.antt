@@ -1,0 +1,14 @@
+-- `copies::store_listed` meets its contract. The loop: `Storing`. Assumes nothing.
+use borrow.Author.Rules.{rules}
+use native.Mathlib.Omega.{arith}
+use Prim.Native.Nat.{◌+◌, ◌-◌, ◌≤◌}
+use lib.ListN.{length}
+use Rattle.copies.proofs.CoverLaws.{covered-at}
+use Rattle.copies.proofs.MoveLaws.{Storing, storing-starts, storing-fits, storing-within, storing-turns, storing-ends}
+use Rattle.copies.proofs.store_listed.Given as goal
+
+abbrev pub invariant-loop-i : goal.invariant-loop-i
+invariant-loop-i l = Storing l.z l.list l.whole l.words l.initial.tree l.tree l.at l.i
+
+abbrev pub decreases-loop-i : goal.decreases-loop-i
+decreases-loop-i l = l.whole - l.i

@@ -1,0 +1,48 @@
+use borrow.Author.Rules.{rules}
+use native.Mathlib.Omega.{arith}
+use mathlib.Core.Path.{sym, ap, ◌∙◌}
+use mathlib.Core.Bool.{not}
+use borrow.Author.Tests.{lt-ltb, le-ltb, not-false}
+use Rattle.record.specs.declared.Rule.{Rule}
+use Rattle.record.specs.Words.{records}
+use Rattle.path.proofs.SizesLaws.{in-range}
+use Rattle.judge.proofs.JudgeLaws.{bad-in-turn}
+use Rattle.judge.proofs.are_parts_bad.Reads as reads
+use Rattle.judge.proofs.are_parts_bad.Lts as lts
+use Rattle.judge.proofs.is_least_odd.Reads as is-least-odd-reads
+use Rattle.judge.proofs.is_root_bad.Reads as is-root-bad-reads
+use Rattle.path.proofs.sizes.Sizes.in_range.Reads as in-range-reads
+use Rattle.parts.proofs.Parts.rule.Reads as rule-reads
+use Rattle.judge.proofs.are_parts_bad.Goals as goal
+
+pub returns-then-not-in_range : goal.returns-then-not-in_range
+returns-then-not-in_range c =
+    rw (bad-in-turn c.args.parts (records c.args.root.now), ap not (sym c.in_range.ensures ∙ c.if-not-in_range.true))
+
+pub returns-then-parts-sizes : goal.returns-then-parts-sizes
+returns-then-parts-sizes c =
+    rw (bad-in-turn c.args.parts (records c.args.root.now), ap not (sym c.in_range.ensures ∙ c.if-not-in_range.false), lt-ltb _ _ c.if-parts-sizes.true)
+
+pub rule-rule-requires : goal.rule-rule-requires
+rule-rule-requires c =
+    omega (arith, (in-range c.args.parts.sizes (sym c.in_range.ensures ∙ c.if-not-in_range.false)).tree.height.1)
+
+pub returns-then-parts-rule : goal.returns-then-parts-rule
+returns-then-parts-rule c =
+    rw (bad-in-turn c.args.parts (records c.args.root.now), ap not (sym c.in_range.ensures ∙ c.if-not-in_range.false), le-ltb _ _ c.if-parts-sizes.false, lt-ltb _ _ (rw (ap (λ (r : Rule). r.leaves) c.rule-rule.ensures) at c.if-parts-rule.true))
+
+pub returns-then-parts : goal.returns-then-parts
+returns-then-parts c =
+    rw (bad-in-turn c.args.parts (records c.args.root.now), ap not (sym c.in_range.ensures ∙ c.if-not-in_range.false), le-ltb _ _ c.if-parts-sizes.false, le-ltb _ _ (rw (ap (λ (r : Rule). r.leaves) c.rule-rule.ensures) at c.if-parts-rule.false), lt-ltb _ _ c.if-parts.true)
+
+pub is_root_bad-requires : goal.is_root_bad-requires
+is_root_bad-requires c =
+    ((in-range c.args.parts.sizes (sym c.in_range.ensures ∙ c.if-not-in_range.false)).roots.1, c.requires)
+
+pub returns-then-is_root_bad : goal.returns-then-is_root_bad
+returns-then-is_root_bad c =
+    rw (bad-in-turn c.args.parts (records c.args.root.now), ap not (sym c.in_range.ensures ∙ c.if-not-in_range.false), le-ltb _ _ c.if-parts-sizes.false, le-ltb _ _ (rw (ap (λ (r : Rule). r.leaves) c.rule-rule.ensures) at c.if-parts-rule.false), le-ltb _ _ c.if-parts.false, rw c.rule-rule.ensures at (sym c.is_root_bad.ensures ∙ c.if-is_root_bad.true))
+
+pub returns : goal.returns
+returns c =
+    rw (bad-in-turn c.args.parts (records c.args.root.now), ap not (sym c.in_range.ensures ∙ c.if-not-in_range.false), le-ltb _ _ c.if-parts-sizes.false, le-ltb _ _ (rw (ap (λ (r : Rule). r.leaves) c.rule-rule.ensures) at c.if-parts-rule.false), le-ltb _ _ c.if-parts.false, rw c.rule-rule.ensures at (sym c.is_root_bad.ensures ∙ c.if-is_root_bad.false)) (rw c.rule-rule.ensures at c.is_least_odd.ensures)

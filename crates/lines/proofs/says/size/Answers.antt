@@ -1,0 +1,13 @@
+-- `lines::says::size` meets its contract. The numbers behind the word say it, or nothing does. Assumes nothing.
+use borrow.Author.Rules.{rules}
+use mathlib.Core.Path.{refl}
+use borrow.Author.Tests.{not-true, not-false}
+use Rattle.lines.specs.Says.{size_kind}
+use Rattle.lines.proofs.SaysLaws.{said, unsaid}
+use Rattle.lines.proofs.says.size.Goals as goal
+
+pub returns-then-not-numbers : goal.returns-then-not-numbers
+returns-then-not-numbers c = unsaid size_kind _ _ _ _ c.numbers.ensures refl c.if-not-numbers.true
+
+pub returns : goal.returns
+returns c = said size_kind _ _ _ _ c.numbers.ensures refl c.if-not-numbers.false

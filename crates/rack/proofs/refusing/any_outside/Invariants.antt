@@ -1,0 +1,16 @@
+-- `rack::refusing::any_outside` meets its contract. The loop: what is left of the list decides. Assumes nothing.
+use borrow.Author.Rules.{rules}
+use native.Mathlib.Omega.{arith}
+use Prim.Native.Nat.{◌-◌, ◌≤◌}
+use mathlib.Core.Path.{◌≡◌, refl, sym, ◌∙◌}
+use lib.ListN.{take, drop}
+use Rattle.rack.specs.Answers.{any_outside}
+use Rattle.copies.proofs.LayoutLaws.{leaves-few}
+use Rattle.rack.proofs.RefusalLaws.{low-outside, high-outside, not-outside, outside-next, none-outside}
+use Rattle.rack.proofs.refusing.any_outside.Given as goal
+
+abbrev pub invariant-loop-i : goal.invariant-loop-i
+invariant-loop-i l = (l.i ≤ l.covered) × (any_outside l.h (take l.covered l.list) ≡ any_outside l.h (drop l.i (take l.covered l.list)))
+
+abbrev pub decreases-loop-i : goal.decreases-loop-i
+decreases-loop-i l = l.covered - l.i

@@ -1,0 +1,23 @@
+-- `rack::refusing::of_fill` meets its contract: a return for each row of the table. Assumes nothing.
+use borrow.Author.Rules.{rules}
+use mathlib.Core.Path.{sym, ◌∙◌}
+use borrow.Author.Tests.{not-true, not-false, eq-eqb, ne_eqb}
+use Rattle.refusal.specs.Refusal.{first_given}
+use Rattle.rack.proofs.refusing.of_fill.Goals as goal
+
+pub returns-then-not-tree_in_range : goal.returns-then-not-tree_in_range
+unfolding first_given
+returns-then-not-tree_in_range c = rw (sym c.tree_in_range.ensures ∙ c.if-not-tree_in_range.true)
+
+pub tree_words-requires : goal.tree_words-requires
+tree_words-requires c = sym c.tree_in_range.ensures ∙ c.if-not-tree_in_range.false
+
+pub returns-then-tree-tree_words : goal.returns-then-tree-tree_words
+unfolding first_given
+returns-then-tree-tree_words c =
+    rw (sym c.tree_in_range.ensures ∙ c.if-not-tree_in_range.false, ne_eqb _ _ (rw c.tree_words.ensures at c.if-tree-tree_words.true))
+
+pub returns : goal.returns
+unfolding first_given
+returns c =
+    rw (sym c.tree_in_range.ensures ∙ c.if-not-tree_in_range.false, eq-eqb _ _ (c.if-tree-tree_words.false ∙ c.tree_words.ensures))

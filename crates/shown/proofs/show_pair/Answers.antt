@@ -1,0 +1,15 @@
+-- `show_pair`: the first way, each path's siblings, and the slots of both paths. Assumes nothing.
+use borrow.Author.Rules.{rules}
+use native.Mathlib.Omega.{arith}
+use Rattle.shown.proofs.ShownLaws.{pair-shown}
+use Rattle.shown.proofs.show_pair.Goals as goal
+
+pub overflow_add-result : goal.overflow_add-result
+overflow_add-result c =
+    omega (arith, c.show_siblings-moved.ensures.counted, c.show_siblings-more.ensures.counted, c.requires)
+
+pub returns : goal.returns
+returns c =
+    let s = c.args in
+    pair-shown s.sizes s.root s.words.now _ _ _ _ c.show_way.ensures _ _ c.show_siblings-moved.ensures
+    c.show_siblings-more.ensures c.show_way-2.ensures

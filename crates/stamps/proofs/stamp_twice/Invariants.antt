@@ -1,0 +1,18 @@
+-- `stamp_twice`: no record looked at so far has a stamp that stands again behind it. Assumes nothing.
+use borrow.Author.Rules.{rules}
+use native.Mathlib.Omega.{arith}
+use Prim.Native.Nat.{◌-◌}
+use mathlib.Core.Logic.{⊎_elim}
+use mathlib.Core.Path.{◌≡◌, sym, refl, ◌∙◌}
+use borrow.Author.Tests.{not-true, not-false}
+use lib.ListN.{drop}
+use Rattle.record.specs.Many.{stamp_twice}
+use Rattle.record.specs.Words.{records}
+use Rattle.stamps.proofs.StampLaws.{twice_found, twice-skips, twice-turns, twice_ends}
+use Rattle.stamps.proofs.stamp_twice.Given as goal
+
+abbrev pub invariant-loop-i : goal.invariant-loop-i
+invariant-loop-i l = stamp_twice (records l.w) ≡ stamp_twice (drop l.i (records l.w))
+
+abbrev pub decreases-loop-i : goal.decreases-loop-i
+decreases-loop-i l = l.n - l.i

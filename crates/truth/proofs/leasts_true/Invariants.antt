@@ -1,0 +1,18 @@
+-- `leasts_true` meets its contract: the levels before `level` have passed. Assumes nothing.
+use borrow.Author.Rules.{rules}
+use native.Mathlib.Omega.{arith}
+use Prim.Native.Nat.{suc, ◌-◌, ◌≤◌}
+use mathlib.Core.Path.{◌∙◌, ap}
+use Rattle.record.specs.declared.Rule.{Rule}
+use Rattle.truth.specs.Leasts.{leasts_true, true_at}
+use Rattle.sound.specs.Fetched.{fetched_in}
+use Rattle.sound.proofs.Checking.{passes, refuses, Passed, passed-starts, passed-turns, passed-fails, passed-ends, from_one}
+use mathlib.Core.Bool.{not}
+use Rattle.truth.proofs.leasts_true.Given as goal
+
+abbrev pub invariant-loop-level : goal.invariant-loop-level
+invariant-loop-level l =
+    (1 ≤ l.level) × ((rule : Rule) → Passed (true_at l.sizes.h rule (fetched_in l.sizes.z l.leaf l.path l.sibs)) l.sizes.h 1 l.level)
+
+abbrev pub decreases-loop-level : goal.decreases-loop-level
+decreases-loop-level l = suc l.sizes.h - l.level
