@@ -1,5 +1,4 @@
 -- `write_part`: as many words as there are. Assumes nothing.
-use borrow.Author.Rules.{rules}
 use mathlib.Core.Path.{refl, sym, ◌∙◌}
 use Rattle.record.proofs.Pasting.{paste-whole}
 use Rattle.writing.proofs.write_part.Goals as goal

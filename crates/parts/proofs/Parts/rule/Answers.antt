@@ -1,4 +1,3 @@
-use borrow.Author.Rules.{rules}
 use Prim.Native.Nat.{ℕ}
 use mathlib.Core.Path.{ap}
 use Rattle.record.specs.Standing.{rule_for}

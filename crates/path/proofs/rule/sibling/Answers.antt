@@ -1,4 +1,3 @@
-use borrow.Author.Rules.{rules}
 use borrow.Author.Tests.{eq-eqb, ne_eqb}
 use Rattle.path.specs.Path.{sibling_of}
 use Rattle.path.proofs.rule.sibling.Goals as goal

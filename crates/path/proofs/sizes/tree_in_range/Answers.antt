@@ -1,6 +1,4 @@
-use borrow.Author.Rules.{rules}
 use mathlib.Core.Path.{sym, ◌∙◌}
-use borrow.Author.Tests.{not-true, not-false}
 use Rattle.path.specs.Sizes.{tree_in}
 use Rattle.path.proofs.sizes.tree_in_range.Goals as goal
 

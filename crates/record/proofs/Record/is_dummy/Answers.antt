@@ -1,4 +1,3 @@
-use borrow.Author.Rules.{rules}
 use Rattle.record.specs.Standing.{is_dummy}
 use Rattle.record.proofs.Record.is_dummy.Goals as goal
 

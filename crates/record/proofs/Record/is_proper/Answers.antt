@@ -1,4 +1,3 @@
-use borrow.Author.Rules.{rules}
 use borrow.Author.Tests.{lt-ltb, le-ltb}
 use Rattle.record.specs.Standing.{is_proper}
 use Rattle.record.proofs.Record.is_proper.Goals as goal

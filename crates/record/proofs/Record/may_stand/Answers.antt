@@ -1,4 +1,3 @@
-use borrow.Author.Rules.{rules}
 use Rattle.record.specs.Standing.{may_stand}
 use Rattle.record.proofs.Record.may_stand.Goals as goal
 

@@ -1,4 +1,3 @@
-use borrow.Author.Rules.{rules}
 use Rattle.record.specs.Order.{smaller_by}
 use Rattle.record.proofs.Record.smaller.Goals as goal
 

@@ -1,4 +1,3 @@
-use borrow.Author.Rules.{rules}
 use native.Mathlib.Omega.{arith}
 use Prim.Native.Nat.{suc, ◌+◌, ◌*◌}
 use mathlib.Core.Path.{◌≡◌}

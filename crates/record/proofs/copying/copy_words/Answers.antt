@@ -1,7 +1,5 @@
 -- `copy_words` meets its contract. The loop: `Pasting`. Assumes nothing.
-use borrow.Author.Rules.{rules}
-use Prim.Native.Nat.{◌-◌}
-use Rattle.record.proofs.Pasting.{Pasting, pasting-starts, pasting-turns, pasting-ends}
+use Rattle.record.proofs.Pasting.{pasting-starts, pasting-turns, pasting-ends}
 use Rattle.record.proofs.copying.copy_words.Goals as goal
 
 pub loop-i-init : goal.loop-i-init

@@ -1,7 +1,6 @@
 -- `copy_words` meets its contract. The loop: `Pasting`. Assumes nothing.
-use borrow.Author.Rules.{rules}
 use Prim.Native.Nat.{◌-◌}
-use Rattle.record.proofs.Pasting.{Pasting, pasting-starts, pasting-turns, pasting-ends}
+use Rattle.record.proofs.Pasting.{Pasting}
 use Rattle.record.proofs.copying.copy_words.Given as goal
 
 abbrev pub invariant-loop-i : goal.invariant-loop-i

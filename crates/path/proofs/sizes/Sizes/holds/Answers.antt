@@ -1,4 +1,3 @@
-use borrow.Author.Rules.{rules}
 use Rattle.path.specs.Path.{holds}
 use Rattle.path.proofs.sizes.Sizes.holds.Goals as goal
 

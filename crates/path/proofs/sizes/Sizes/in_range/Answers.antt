@@ -1,7 +1,5 @@
-use borrow.Author.Rules.{rules}
 use native.Mathlib.Omega.{arith}
 use mathlib.Core.Path.{sym, ◌∙◌}
-use borrow.Author.Tests.{not-true, not-false}
 use Rattle.path.specs.Sizes.{in_range}
 use Rattle.path.proofs.SizesLaws.{tree-in}
 use Rattle.path.proofs.sizes.Sizes.in_range.Goals as goal
