@@ -1,6 +1,67 @@
-// Functions to which a card is lent, theorems alone: one law for each shape of such a function, by how many plain parameters it has and
+// Functions to which a card is lent: one law for each shape of such a function, by how many plain parameters it has and
 // whether a slice is lent to it. Document 01, "one thin second entrance keeps the card where the driver lent it".
 //
-// The checker does not follow a reference to a struct. A law here follows it once for all functions of a shape, whatever they promise.
-// Stands on `request` and `card`.
+// A law is a function here: whatever the call by value that it is given asks and promises, the function asks of the card that stands
+// behind the reference, and promises of that card and of the one that stands there afterwards. Stands on `answers` and `card`.
 #![tactic(auto)]
+
+ghost use Rattle.shapes.specs.Lending.{returned, TakesWords, GivesWords};
+
+use answers::Answer;
+use card::{Card, Done};
+
+// A call on a lent card and nothing else.
+pub fn of_card<F: FnOnce(Card) -> Done>(card: &mut Card, call: F) -> Answer
+    requires { F.pre call card.old }
+    ensures { F.post call card.old (returned card.new result) }
+{
+    let done = call(*card);
+    *card = done.card;
+    done.answer
+}
+
+// With four plain parameters.
+pub fn of_four<A, B, C, D, F: FnOnce(Card, A, B, C, D) -> Done>(
+    card: &mut Card,
+    a: A,
+    b: B,
+    c: C,
+    d: D,
+    call: F,
+) -> Answer
+    requires { F.pre call card.old a b c d }
+    ensures { F.post call card.old a b c d (returned card.new result) }
+{
+    let done = call(*card, a, b, c, d);
+    *card = done.card;
+    done.answer
+}
+
+// With a lent slice.
+pub fn of_card_and_slice<F: FnOnce(Card, &mut [u64]) -> Done>(
+    card: &mut Card,
+    words: &mut [u64],
+    call: F,
+) -> Answer
+    requires { TakesWords (F.pre call card.old) words.old }
+    ensures { GivesWords (F.post call card.old) words.old (returned card.new result) words.new }
+{
+    let done = call(*card, words);
+    *card = done.card;
+    done.answer
+}
+
+// With one plain parameter and a lent slice.
+pub fn of_one_and_slice<A, F: FnOnce(Card, A, &mut [u64]) -> Done>(
+    card: &mut Card,
+    a: A,
+    words: &mut [u64],
+    call: F,
+) -> Answer
+    requires { TakesWords (F.pre call card.old a) words.old }
+    ensures { GivesWords (F.post call card.old a) words.old (returned card.new result) words.new }
+{
+    let done = call(*card, a, words);
+    *card = done.card;
+    done.answer
+}
