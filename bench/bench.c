@@ -258,7 +258,7 @@ static void check_same(const State *one, const State *two, const Sizes *s)
         fail("the proved code and plain C differ");
 }
 
-static void measure(const Sizes *s, const char *fill, uint64_t live, int ratios_only)
+static void measure(const Sizes *s, const char *fill, uint64_t live)
 {
     static State one, two;
     size_t bytes = 8 * s->tree_words;
@@ -287,9 +287,7 @@ static void measure(const Sizes *s, const char *fill, uint64_t live, int ratios_
     check_same(&one, &two, s);
 
     overflows += one.overflows;
-    printf("| %2d | %d | %2d | %s ", (int)s->h, (int)s->z, (int)s->r, fill);
-    if (!ratios_only)
-        printf("| %6.0f | %6.0f ", quickest(ours), quickest(c));
+    printf("| %2d | %d | %2d | %s | %6.0f | %6.0f ", (int)s->h, (int)s->z, (int)s->r, fill, quickest(ours), quickest(c));
     for (int round = 0; round < ROUNDS; round++)
         c[round] = ours[round] / c[round];
     printf("| %5.2f | %5.0f | %5.1f |\n", median(c), median(heap), median(copy));
@@ -297,23 +295,18 @@ static void measure(const Sizes *s, const char *fill, uint64_t live, int ratios_
     free(trees[0]), free(trees[1]), free(trees[2]), free(binary.at);
 }
 
-int main(int argc, char **argv)
+int main(void)
 {
     static const int heights[] = {4, 8, 12, 16}, slots[] = {2, 5}, roots[] = {20, 64};
-    (void)argv;
-    int ratios_only = argc > 1; /* under an emulator a time says nothing */
-    printf("| h | Z | R | list ");
-    if (!ratios_only)
-        printf("| proved, ns | plain C, ns ");
-    printf("| proved / plain C | proved / binary heap | proved / copy |\n");
-    printf(ratios_only ? "|---|---|---|---|---|---|---|\n" : "|---|---|---|---|---|---|---|---|---|\n");
+    printf("| h | Z | R | list | proved, ns | plain C, ns | proved / plain C | proved / binary heap | proved / copy |\n");
+    printf("|---|---|---|---|---|---|---|---|---|\n");
     for (int i = 0; i < 4; i++)
         for (int j = 0; j < 2; j++)
             for (int k = 0; k < 2; k++) {
                 uint64_t n = (uint64_t)1 << heights[i];
                 Sizes s = {heights[i], slots[j], roots[k], n, 4 * (slots[j] + 1) * (2 * n - 2)};
-                measure(&s, "a quarter  ", n / 4, ratios_only);
-                measure(&s, "nearly full", n - n / 16, ratios_only);
+                measure(&s, "a quarter  ", n / 4);
+                measure(&s, "nearly full", n - n / 16);
             }
     printf("%d Inserts were refused with 10.\n", (int)overflows);
     return 0;

@@ -1,8 +1,9 @@
-# source.awk: reads Rattle source for tests/promises and tests/numbers.
+# source.awk: reads Rattle source for tests/promises, tests/unique and tests/numbers.
 #
 # A search line by line would take a comment for code and a brace of a contract for the start of a
 # body. So scan(path) splits a file into tokens, leaves out comments, literals, lifetimes and the
-# text of contracts, and calls seen(t), which the check defines, for each token t. It keeps
+# text of contracts, and calls seen(t), which the check defines, for each token t. A file of a crate's
+# out/, where rt keeps copies of what it has read, is no source. It keeps
 #
 #   file, line, prev, prev2   where the token stands, and the two tokens before it
 #   top, kind[], name[]       the open braces: "mod", "impl", "fn" or "" for another, and their names
@@ -10,6 +11,7 @@
 #   is_pub, has[]             whether that is `pub`, and which clauses stand in its head
 
 function scan(path,   text, got) {
+    if (path ~ /^crates\/[^\/]*\/out\//) return
     file = path
     line = top = block = quoted = antt = visible = 0
     prev = prev2 = clause = pending = ""
@@ -28,7 +30,7 @@ function fault(at, who, what) {
     faults++
 }
 
-# The text of a contract and of a `ghost use` is antt's, where comments are written `--` and `{- -}`
+# The text of a contract, of a ghost item and of a `ghost use` is antt's, where comments are written `--` and `{- -}`
 # and a quote may be part of a name.
 function split_line(s,   length_of) {
     while (s != "") {
@@ -52,7 +54,7 @@ function split_line(s,   length_of) {
         } else if (!antt && match(s, /^b?r#*"/)) {
             fault(line, "raw text", "these checks do not read it: write it as b\"..\" with escapes")
             return
-        } else if (!antt && match(s, /^b?"/)) {
+        } else if (match(s, antt ? "^\"" : "^b?\"")) {
             quoted = 1
             length_of = RLENGTH
         } else if (!antt && (match(s, /^b?'([^\\']|\\.[^']*)'/) || match(s, /^'[A-Za-z_0-9]+/))) {

@@ -1,7 +1,7 @@
 /* The card and the rack of a Path Oblivious Heap, for drivers in C.
  *
  * Each function's contract, which this page puts in words, is proved for every input. The words are the paper's: card, rack,
- * bucket, leaf, label, stamp, least record. Link the archive that `rt staticlib driver` writes, target/staticlib/libdriver.a
+ * bucket, leaf, label, stamp, least record. Link the archive that `tools/archive` writes, target/staticlib/libdriver.a
  * (x86-64 Linux). Beyond memcpy and memset it calls nothing; it keeps nothing between calls and allocates nothing.
  *
  * THE RETURN VALUE is 0, or the number of the refusal (NWIDARAP_BAD_SIZE and so on). After a refusal the card and every slice

@@ -1,10 +1,10 @@
 /* A short driver in C: plays the paper's sample on a card and on a rack that stands in plain memory.
  *
- *     rt staticlib driver
+ *     tools/archive
  *     cc -O2 crates/driver/sample.c target/staticlib/libdriver.a -o sample
  *     ./sample
  *
- * (x86-64 Linux; tests/driver builds and runs it on every machine that the kit runs on.) It prints what the desk prints for
+ * (x86-64 Linux; tests/driver builds and runs it.) It prints what the desk prints for
  * samples/paper.txt. To write a driver of your own, keep `request` and replace fetch and store by the messages to your rack.
  */
 #include <inttypes.h>

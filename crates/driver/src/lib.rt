@@ -2,9 +2,9 @@
 // second entrance keeps the card where the driver lent it, and equals the first".
 //
 // The card is the words of `image`. Each call returns the refusal's number, or 0, and fills an answer of six words, all 0
-// for a refusal. A refused call leaves card and every lent slice as they were. The header for C is nwidarap.h in this crate's
-// folder. Stands on `record`, `path`, `lists`, `refusal`, `request`, `answers`, `settle`, `card`, `image`, `copies`, `rack`, `held`
-// and `told`.
+// for a refusal. A refused call leaves card and every lent slice as they were. `driver_c` exports the calls to C, under the same names;
+// the header for C is nwidarap.h in this crate's folder. Stands on `record`, `path`, `lists`, `refusal`, `request`, `answers`, `settle`,
+// `card`, `image`, `copies`, `rack`, `held` and `told`.
 #![tactic(auto)]
 
 mod requests;

@@ -13,8 +13,7 @@ use record::{Leaf, Stamp};
 use request::Request;
 use told::ANSWER_WORDS;
 
-#[unsafe(no_mangle)]
-pub extern "C" fn nwidarap_start(
+pub fn nwidarap_start(
     card: &mut [u64; CARD_WORDS],
     answer: &mut [u64; ANSWER_WORDS],
     h: u64,
@@ -42,8 +41,7 @@ fn begin(
     told::settle(done, card, answer)
 }
 
-#[unsafe(no_mangle)]
-pub extern "C" fn nwidarap_insert(
+pub fn nwidarap_insert(
     card: &mut [u64; CARD_WORDS],
     answer: &mut [u64; ANSWER_WORDS],
     key: u64,
@@ -65,8 +63,7 @@ pub extern "C" fn nwidarap_insert(
     begin(card, answer, request, list)
 }
 
-#[unsafe(no_mangle)]
-pub extern "C" fn nwidarap_extract(
+pub fn nwidarap_extract(
     card: &mut [u64; CARD_WORDS],
     answer: &mut [u64; ANSWER_WORDS],
     list: &mut [u64],
@@ -77,8 +74,7 @@ pub extern "C" fn nwidarap_extract(
     begin(card, answer, request, list)
 }
 
-#[unsafe(no_mangle)]
-pub extern "C" fn nwidarap_delete(
+pub fn nwidarap_delete(
     card: &mut [u64; CARD_WORDS],
     answer: &mut [u64; ANSWER_WORDS],
     label: u64,
@@ -95,11 +91,7 @@ pub extern "C" fn nwidarap_delete(
 }
 
 // The card is lent to be read: its words stay, those of fields that its kind does not use, too.
-#[unsafe(no_mangle)]
-pub extern "C" fn nwidarap_find_min(
-    card: &[u64; CARD_WORDS],
-    answer: &mut [u64; ANSWER_WORDS],
-) -> u64
+pub fn nwidarap_find_min(card: &[u64; CARD_WORDS], answer: &mut [u64; ANSWER_WORDS]) -> u64
     ensures { FindsMin card.now result answer.new }
 {
     let taken = held::card_of(card);
@@ -108,11 +100,7 @@ pub extern "C" fn nwidarap_find_min(
     told::say(said, answer)
 }
 
-#[unsafe(no_mangle)]
-pub extern "C" fn nwidarap_withdraw(
-    card: &mut [u64; CARD_WORDS],
-    answer: &mut [u64; ANSWER_WORDS],
-) -> u64
+pub fn nwidarap_withdraw(card: &mut [u64; CARD_WORDS], answer: &mut [u64; ANSWER_WORDS]) -> u64
     ensures { Called (on_card card.old withdraw_table) (withdrawn (card_in card.old)) card.old result card.new answer.new }
 {
     let taken = held::card_of(card);
@@ -120,8 +108,7 @@ pub extern "C" fn nwidarap_withdraw(
     told::settle(done, card, answer)
 }
 
-#[unsafe(no_mangle)]
-pub extern "C" fn nwidarap_finish(
+pub fn nwidarap_finish(
     card: &mut [u64; CARD_WORDS],
     answer: &mut [u64; ANSWER_WORDS],
     words: &mut [u64],

@@ -7,21 +7,14 @@ ghost use Rattle.driver.specs.Driven.{Racked};
 
 use told::ANSWER_WORDS;
 
-#[unsafe(no_mangle)]
-pub extern "C" fn nwidarap_fill(
-    answer: &mut [u64; ANSWER_WORDS],
-    h: u64,
-    z: u64,
-    tree: &mut [u64],
-) -> u64
+pub fn nwidarap_fill(answer: &mut [u64; ANSWER_WORDS], h: u64, z: u64, tree: &mut [u64]) -> u64
     ensures { Racked (fill_refusal h z tree.old) (fresh_tree h z) tree.old result answer.new tree.new }
 {
     let said = rack::fill(tree, h, z);
     told::tell(said, answer)
 }
 
-#[unsafe(no_mangle)]
-pub extern "C" fn nwidarap_fetch(
+pub fn nwidarap_fetch(
     answer: &mut [u64; ANSWER_WORDS],
     h: u64,
     z: u64,
@@ -37,8 +30,7 @@ pub extern "C" fn nwidarap_fetch(
     told::tell(said, answer)
 }
 
-#[unsafe(no_mangle)]
-pub extern "C" fn nwidarap_store(
+pub fn nwidarap_store(
     answer: &mut [u64; ANSWER_WORDS],
     h: u64,
     z: u64,
