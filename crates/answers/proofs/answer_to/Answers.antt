@@ -1,4 +1,3 @@
-use borrow.Author.Rules.{rules}
 use mathlib.Core.Path.{sym, ap}
 use Rattle.request.specs.declared.Request.{Request}
 use Rattle.answers.specs.Answers.{answer_to}

@@ -2,7 +2,6 @@
 use mathlib.Core.Bool.{Bool, true, false, cond}
 use mathlib.Core.Path.{◌≡◌, refl}
 use mir.Val.{bool_byte}
-use borrow.Author.Rules.{rules}
 use Rattle.answers.proofs.values_of.Goals as goal
 
 -- a Bool as a word is 1 or 0

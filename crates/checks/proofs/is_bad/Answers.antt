@@ -1,4 +1,3 @@
-use borrow.Author.Rules.{rules}
 use mathlib.Core.Path.{sym, ◌∙◌}
 use Rattle.record.specs.Words.{records}
 use Rattle.checks.proofs.CheckLaws.{parts-range}

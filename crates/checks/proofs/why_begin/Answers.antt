@@ -1,7 +1,5 @@
-use borrow.Author.Rules.{rules}
 use mathlib.Core.Path.{sym, ◌∙◌}
 use Rattle.record.specs.Words.{records}
-use Rattle.checks.specs.Checks.{bad_with}
 use Rattle.checks.proofs.CheckLaws.{idle-range, begin-busy, begin-fault, begin-room}
 use Rattle.checks.proofs.why_begin.Goals as goal
 

@@ -1,4 +1,3 @@
-use borrow.Author.Rules.{rules}
 use mathlib.Core.Path.{sym, ◌∙◌}
 use Rattle.refusal.specs.Refusal.{first_given}
 use Rattle.checks.proofs.why_busy.Goals as goal

@@ -1,4 +1,3 @@
-use borrow.Author.Rules.{rules}
 use Rattle.checks.specs.Checks.{call_rows}
 use Rattle.checks.proofs.why_call.Goals as goal
 

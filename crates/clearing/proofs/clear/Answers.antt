@@ -1,5 +1,4 @@
 -- `clear` meets its contract. Assumes nothing.
-use borrow.Author.Rules.{rules}
 use Rattle.clearing.proofs.RemovalLaws.{clear-found, clear_none}
 use Rattle.clearing.proofs.clear.Goals as goal
 

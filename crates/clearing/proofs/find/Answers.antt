@@ -1,14 +1,11 @@
 -- `find` meets its contract: what is left of the search begins at place i. Assumes nothing.
 use borrow.Author.Rules.{rules}
 use native.Mathlib.Omega.{arith}
-use Prim.Native.Nat.{◌-◌, ◌/◌, ◌≤◌}
+use Prim.Native.Nat.{◌-◌, ◌/◌}
 use lib.ListN.{length}
 use mathlib.Core.Path.{◌≡◌, sym, ◌∙◌}
-use Rattle.record.specs.Words.{records}
 use Rattle.record.proofs.WordsLaws.{records-count}
-use Rattle.way.specs.Evict.{seek}
-use Rattle.way.proofs.EvictLaws.{seek_from, seek-starts, seek_found, seek-turns, seek-ends}
-use Rattle.clearing.specs.Removal.{named}
+use Rattle.way.proofs.EvictLaws.{seek-starts, seek_found, seek-turns, seek-ends}
 use Rattle.clearing.proofs.find.Goals as goal
 
 pub loop-i-init : goal.loop-i-init

@@ -1,5 +1,4 @@
 -- `is_named` meets its contract: the tests are those of `named`, in another order. Assumes nothing.
-use borrow.Author.Rules.{rules}
 use mathlib.Core.Bool.{not, and-false, and-true}
 use mathlib.Core.Path.{ap}
 use borrow.Author.Tests.{eq-eqb, ne_eqb}

@@ -1,12 +1,6 @@
 -- `copies::fetch_listed` meets its contract. The loop: `Fetching`. Assumes nothing.
-use borrow.Author.Rules.{rules}
-use native.Mathlib.Omega.{arith}
-use Prim.Native.Nat.{◌+◌, ◌-◌, ◌≤◌}
-use lib.ListN.{length, get_or}
-use Rattle.path.specs.Path.{bucket}
-use Rattle.copies.specs.Copy.{Stands}
-use Rattle.copies.proofs.CoverLaws.{covered-at}
-use Rattle.copies.proofs.MoveLaws.{part-most, Fetching, fetching-starts, fetching-room, fetching-fits, fetching-turns, fetching-ends}
+use Prim.Native.Nat.{◌-◌}
+use Rattle.copies.proofs.MoveLaws.{Fetching}
 use Rattle.copies.proofs.fetch_listed.Given as goal
 
 abbrev pub invariant-loop-i : goal.invariant-loop-i

@@ -1,10 +1,9 @@
 -- `copies::fill_dummies` meets its contract. The loop: `Filling`. Assumes nothing.
-use borrow.Author.Rules.{rules}
 use native.Mathlib.Omega.{arith}
-use Prim.Native.Nat.{◌-◌, ◌/◌, ◌≤◌}
+use Prim.Native.Nat.{◌-◌, ◌/◌}
 use mathlib.Core.Path.{◌≡◌, ◌∙◌}
 use lib.ListN.{length}
-use Rattle.copies.proofs.CopyLaws.{Filling, filling-starts, filling-turns, filling-ends}
+use Rattle.copies.proofs.CopyLaws.{filling-starts, filling-turns, filling-ends}
 use Rattle.copies.proofs.fill_dummies.Goals as goal
 
 pub loop-place-init : goal.loop-place-init

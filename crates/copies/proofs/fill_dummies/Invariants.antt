@@ -1,10 +1,6 @@
 -- `copies::fill_dummies` meets its contract. The loop: `Filling`. Assumes nothing.
-use borrow.Author.Rules.{rules}
-use native.Mathlib.Omega.{arith}
-use Prim.Native.Nat.{◌-◌, ◌/◌, ◌≤◌}
-use mathlib.Core.Path.{◌≡◌, ◌∙◌}
-use lib.ListN.{length}
-use Rattle.copies.proofs.CopyLaws.{Filling, filling-starts, filling-turns, filling-ends}
+use Prim.Native.Nat.{◌-◌, ◌≤◌}
+use Rattle.copies.proofs.CopyLaws.{Filling}
 use Rattle.copies.proofs.fill_dummies.Given as goal
 
 abbrev pub invariant-loop-place : goal.invariant-loop-place

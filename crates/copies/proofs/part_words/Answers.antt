@@ -1,5 +1,4 @@
 -- `copies::part_words` meets its contract. Assumes nothing.
-use borrow.Author.Rules.{rules}
 use mathlib.Core.Path.{◌∙◌, sym}
 use Rattle.copies.proofs.MoveLaws.{whole_part, least-part}
 use Rattle.copies.proofs.part_words.Goals as goal

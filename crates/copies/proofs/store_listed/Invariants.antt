@@ -1,10 +1,6 @@
 -- `copies::store_listed` meets its contract. The loop: `Storing`. Assumes nothing.
-use borrow.Author.Rules.{rules}
-use native.Mathlib.Omega.{arith}
-use Prim.Native.Nat.{◌+◌, ◌-◌, ◌≤◌}
-use lib.ListN.{length}
-use Rattle.copies.proofs.CoverLaws.{covered-at}
-use Rattle.copies.proofs.MoveLaws.{Storing, storing-starts, storing-fits, storing-within, storing-turns, storing-ends}
+use Prim.Native.Nat.{◌-◌}
+use Rattle.copies.proofs.MoveLaws.{Storing}
 use Rattle.copies.proofs.store_listed.Given as goal
 
 abbrev pub invariant-loop-i : goal.invariant-loop-i

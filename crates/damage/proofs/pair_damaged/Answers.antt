@@ -1,5 +1,4 @@
 -- `pair_damaged` meets its contract: each return is decided by the clauses before it. Assumes nothing.
-use borrow.Author.Rules.{rules}
 use native.Mathlib.Omega.{arith}
 use mathlib.Core.Bool.{not}
 use mathlib.Core.Path.{sym, ap, ◌∙◌}

@@ -1,5 +1,4 @@
 -- `decimal::leading_zero` meets its contract. A branch for each way. Assumes nothing.
-use borrow.Author.Rules.{rules}
 use native.Mathlib.Omega.{arith}
 use mathlib.Core.Path.{sym}
 use Rattle.decimal.proofs.FieldLaws.{zero-leads, none-leads}

@@ -1,7 +1,6 @@
 -- `decimal::print` meets its contract. The loop: `Spelling`. Assumes nothing.
-use borrow.Author.Rules.{rules}
 use native.Mathlib.Omega.{arith}
-use Rattle.decimal.proofs.PrintLaws.{Spelling, spelling-starts, spelling-turns, spelling-ends, number-no-room, number-in-room}
+use Rattle.decimal.proofs.PrintLaws.{spelling-starts, spelling-turns, spelling-ends, number-no-room, number-in-room}
 use Rattle.decimal.proofs.print.Goals as goal
 
 pub returns-then-out-k : goal.returns-then-out-k

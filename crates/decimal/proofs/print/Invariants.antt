@@ -1,7 +1,5 @@
 -- `decimal::print` meets its contract. The loop: `Spelling`. Assumes nothing.
-use borrow.Author.Rules.{rules}
-use native.Mathlib.Omega.{arith}
-use Rattle.decimal.proofs.PrintLaws.{Spelling, spelling-starts, spelling-turns, spelling-ends, number-no-room, number-in-room}
+use Rattle.decimal.proofs.PrintLaws.{Spelling}
 use Rattle.decimal.proofs.print.Given as goal
 
 abbrev pub invariant-loop-i : goal.invariant-loop-i

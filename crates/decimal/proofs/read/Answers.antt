@@ -1,10 +1,8 @@
 -- `decimal::read` meets its contract. The loop: `Scanning`. Assumes nothing.
-use borrow.Author.Rules.{rules}
 use native.Mathlib.Omega.{arith}
 use mathlib.Core.Path.{sym, ◌∙◌}
 use Prim.Native.Nat.{◌-◌}
-use lib.ListN.{length}
-use Rattle.decimal.proofs.FieldLaws.{Scanning, scanning-starts, scanning-turns, scanning-ends, refused-empty, refused-zero, refused-low, refused-high, refused_over}
+use Rattle.decimal.proofs.FieldLaws.{scanning-starts, scanning-turns, scanning-ends, refused-empty, refused-zero, refused-low, refused-high, refused_over}
 use Rattle.decimal.proofs.read.Goals as goal
 
 pub returns-then-field-eq0 : goal.returns-then-field-eq0

@@ -1,7 +1,7 @@
 -- `decimal::width` meets its contract. The loop: `Shortening`. Assumes nothing.
 use borrow.Author.Rules.{rules}
 use native.Mathlib.Omega.{arith}
-use Rattle.decimal.proofs.WidthLaws.{Shortening, shortening-starts, shortening-turns, shortening-ends, room-for-more}
+use Rattle.decimal.proofs.WidthLaws.{shortening-starts, shortening-turns, shortening-ends, room-for-more}
 use Rattle.decimal.proofs.width.Goals as goal
 
 pub loop-rest-init : goal.loop-rest-init

@@ -1,7 +1,5 @@
 -- `decimal::width` meets its contract. The loop: `Shortening`. Assumes nothing.
-use borrow.Author.Rules.{rules}
-use native.Mathlib.Omega.{arith}
-use Rattle.decimal.proofs.WidthLaws.{Shortening, shortening-starts, shortening-turns, shortening-ends, room-for-more}
+use Rattle.decimal.proofs.WidthLaws.{Shortening}
 use Rattle.decimal.proofs.width.Given as goal
 
 abbrev pub invariant-loop-rest : goal.invariant-loop-rest

@@ -1,10 +1,7 @@
 -- `fields::end_of` meets its contract. The loop: what is left of the field decides where it ends. Assumes nothing.
-use borrow.Author.Rules.{rules}
 use native.Mathlib.Omega.{arith}
-use Prim.Native.Nat.{◌+◌, ◌-◌}
-use mathlib.Core.Path.{◌≡◌, refl}
-use lib.ListN.{length, drop}
-use Rattle.fields.specs.Pieces.{before}
+use Prim.Native.Nat.{◌-◌}
+use mathlib.Core.Path.{refl}
 use Rattle.fields.proofs.PiecesLaws.{before-stops, before-goes-on, before-ends}
 use Rattle.fields.proofs.end_of.Goals as goal
 

@@ -1,11 +1,8 @@
 -- `fields::end_of` meets its contract. The loop: what is left of the field decides where it ends. Assumes nothing.
-use borrow.Author.Rules.{rules}
-use native.Mathlib.Omega.{arith}
 use Prim.Native.Nat.{◌+◌, ◌-◌}
-use mathlib.Core.Path.{◌≡◌, refl}
+use mathlib.Core.Path.{◌≡◌}
 use lib.ListN.{length, drop}
 use Rattle.fields.specs.Pieces.{before}
-use Rattle.fields.proofs.PiecesLaws.{before-stops, before-goes-on, before-ends}
 use Rattle.fields.proofs.end_of.Given as goal
 
 abbrev pub invariant-loop-i : goal.invariant-loop-i

@@ -1,10 +1,7 @@
 -- `fields::numbers` meets its contract. The loop: `Walking`. Assumes nothing.
-use borrow.Author.Rules.{rules}
-use native.Mathlib.Omega.{arith}
 use Prim.Native.Nat.{◌-◌}
-use mathlib.Core.Path.{sym, ◌∙◌}
 use lib.ListN.{length}
-use Rattle.fields.proofs.WalkLaws.{Walking, walking-starts, walk-short, walk_refused, walk-turns, walk_ends, field-within}
+use Rattle.fields.proofs.WalkLaws.{Walking}
 use Rattle.fields.proofs.numbers.Given as goal
 
 abbrev pub invariant-loop-k : goal.invariant-loop-k

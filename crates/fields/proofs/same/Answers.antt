@@ -1,11 +1,8 @@
 -- `fields::same` meets its contract. The loop: what is left of both decides. Assumes nothing.
-use borrow.Author.Rules.{rules}
 use native.Mathlib.Omega.{arith}
-use Prim.Native.Nat.{◌-◌, ◌≤◌}
-use mathlib.Core.Path.{◌≡◌, refl, sym, ◌∙◌}
-use lib.ListN.{length, drop}
+use Prim.Native.Nat.{◌-◌}
+use mathlib.Core.Path.{refl, sym, ◌∙◌}
 use borrow.Author.Tests.{eq-eqb, ne_eqb}
-use Rattle.fields.specs.Pieces.{same_bytes}
 use Rattle.fields.proofs.PiecesLaws.{other_length, same_next, all_same}
 use Rattle.fields.proofs.same.Goals as goal
 

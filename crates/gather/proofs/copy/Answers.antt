@@ -1,5 +1,4 @@
 -- `copy` meets its contract: words copied are records laid. Assumes nothing.
-use borrow.Author.Rules.{rules}
 use mathlib.Core.Path.{◌∙◌}
 use Rattle.gather.proofs.LaidLaws.{paste-laid}
 use Rattle.gather.proofs.copy.Goals as goal

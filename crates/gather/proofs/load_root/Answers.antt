@@ -1,10 +1,10 @@
 -- `load_root` meets its contract: the loop has laid the root's first i slots. Assumes nothing.
 use borrow.Author.Rules.{rules}
 use native.Mathlib.Omega.{arith}
-use Prim.Native.Nat.{◌-◌, ◌≤◌}
+use Prim.Native.Nat.{◌-◌}
 use mathlib.Core.Path.{◌≡◌}
-use lib.ListN.{length, take}
-use Rattle.gather.proofs.Loading.{Laying, laying-starts, root-turns}
+use lib.ListN.{length}
+use Rattle.gather.proofs.Loading.{laying-starts, root-turns}
 use Rattle.gather.proofs.load_root.Goals as goal
 
 pub loop-i-init : goal.loop-i-init

@@ -1,10 +1,7 @@
 -- `load_root` meets its contract: the loop has laid the root's first i slots. Assumes nothing.
-use borrow.Author.Rules.{rules}
-use native.Mathlib.Omega.{arith}
 use Prim.Native.Nat.{◌-◌, ◌≤◌}
-use mathlib.Core.Path.{◌≡◌}
-use lib.ListN.{length, take}
-use Rattle.gather.proofs.Loading.{Laying, laying-starts, root-turns}
+use lib.ListN.{take}
+use Rattle.gather.proofs.Loading.{Laying}
 use Rattle.gather.proofs.load_root.Given as goal
 
 abbrev pub invariant-loop-i : goal.invariant-loop-i

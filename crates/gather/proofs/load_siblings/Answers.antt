@@ -1,9 +1,9 @@
 -- `load_siblings` meets its contract: the loop has laid the siblings before its place. Assumes nothing.
 use borrow.Author.Rules.{rules}
 use native.Mathlib.Omega.{arith}
-use Prim.Native.Nat.{◌-◌, ◌≤◌}
+use Prim.Native.Nat.{◌-◌}
 use mathlib.Core.Path.{refl}
-use Rattle.gather.proofs.Loading.{Siblings, siblings-start, siblings-turn, siblings-end}
+use Rattle.gather.proofs.Loading.{siblings-start, siblings-turn, siblings-end}
 use Rattle.gather.proofs.load_siblings.Goals as goal
 
 pub loop-place-init : goal.loop-place-init

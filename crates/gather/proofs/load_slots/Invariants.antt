@@ -1,8 +1,6 @@
 -- `load_slots` meets its contract: the loop has laid the slots of so many buckets. Assumes nothing.
-use borrow.Author.Rules.{rules}
-use native.Mathlib.Omega.{arith}
 use Prim.Native.Nat.{◌-◌, ◌≤◌}
-use Rattle.gather.proofs.Loading.{Slots, slots-start, slots-within, slots-turn, slots_end}
+use Rattle.gather.proofs.Loading.{Slots}
 use Rattle.gather.proofs.load_slots.Given as goal
 
 abbrev pub invariant-loop : goal.invariant-loop

@@ -1,13 +1,12 @@
 -- `save_root` meets its contract: the loop has put back the way's first i slots. Assumes nothing.
 use borrow.Author.Rules.{rules}
 use native.Mathlib.Omega.{arith}
-use Prim.Native.Nat.{◌-◌, ◌≤◌}
+use Prim.Native.Nat.{◌-◌}
 use mathlib.Core.Path.{◌≡◌, sym, ◌∙◌}
 use lib.ListN.{length}
-use Rattle.record.specs.Words.{records}
 use Rattle.record.specs.Standing.{dummy}
 use Rattle.record.proofs.WordsLaws.{records-at, records-long}
-use Rattle.gather.proofs.Loading.{Saving, saving-starts, saving-turns}
+use Rattle.gather.proofs.Loading.{saving-starts, saving-turns}
 use Rattle.gather.proofs.save_root.Goals as goal
 
 pub loop-i-init : goal.loop-i-init

@@ -1,18 +1,11 @@
-use borrow.Author.Rules.{rules}
 use native.Mathlib.Omega.{arith}
 use mathlib.Core.Path.{sym, ap, ◌∙◌}
 use mathlib.Core.Bool.{not}
-use borrow.Author.Tests.{lt-ltb, le-ltb, not-false}
+use borrow.Author.Tests.{lt-ltb, le-ltb}
 use Rattle.record.specs.declared.Rule.{Rule}
 use Rattle.record.specs.Words.{records}
 use Rattle.path.proofs.SizesLaws.{in-range}
 use Rattle.judge.proofs.JudgeLaws.{bad-in-turn}
-use Rattle.judge.proofs.are_parts_bad.Reads as reads
-use Rattle.judge.proofs.are_parts_bad.Lts as lts
-use Rattle.judge.proofs.is_least_odd.Reads as is-least-odd-reads
-use Rattle.judge.proofs.is_root_bad.Reads as is-root-bad-reads
-use Rattle.path.proofs.sizes.Sizes.in_range.Reads as in-range-reads
-use Rattle.parts.proofs.Parts.rule.Reads as rule-reads
 use Rattle.judge.proofs.are_parts_bad.Goals as goal
 
 pub returns-then-not-in_range : goal.returns-then-not-in_range

@@ -1,4 +1,3 @@
-use borrow.Author.Rules.{rules}
 use mathlib.Core.Path.{sym, ap, ◌∙◌}
 use mathlib.Core.Bool.{not, or-false}
 use borrow.Author.Tests.{eq-eqb, ne_eqb}

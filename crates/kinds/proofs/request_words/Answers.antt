@@ -1,5 +1,4 @@
 -- `request_words` meets its contract: kind by kind. Assumes nothing.
-use borrow.Author.Rules.{rules}
 use Rattle.kinds.specs.Kinds.{request_words}
 use Rattle.kinds.proofs.request_words.Goals as goal
 

@@ -1,5 +1,4 @@
 -- `kids_least`: the lower child first, whichever of the two it is. Assumes nothing.
-use borrow.Author.Rules.{rules}
 use mathlib.Core.Path.{◌∙◌}
 use borrow.Author.Tests.{eq-eqb, ne_eqb}
 use Rattle.record.specs.Order.{smallest_by}

@@ -1,13 +1,10 @@
 -- `least_over`: the least of the slots from k on, and of the one after them. Assumes nothing.
-use borrow.Author.Rules.{rules}
-use native.Mathlib.Omega.{arith}
 use Prim.Native.Nat.{◌≤◌}
-use mathlib.Core.Path.{◌≡◌, ◌∙◌}
+use mathlib.Core.Path.{◌≡◌}
 use lib.ListN.{take, drop}
 use Rattle.record.specs.declared.Rule.{Rule}
 use Rattle.record.specs.Words.{records}
 use Rattle.least.specs.Least.{over}
-use Rattle.least.proofs.LeastLaws.{over-starts, over-turns}
 use Rattle.least.proofs.least_over.Given as goal
 
 abbrev pub invariant-loop-k : goal.invariant-loop-k

@@ -1,4 +1,3 @@
-use borrow.Author.Rules.{rules}
 use native.Mathlib.Omega.{arith}
 use Rattle.listing.proofs.ListingLaws.{counts-few}
 use Rattle.listing.proofs.are_words_more.Goals as goal

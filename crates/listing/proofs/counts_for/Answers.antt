@@ -1,4 +1,3 @@
-use borrow.Author.Rules.{rules}
 use mathlib.Core.Path.{sym, ◌∙◌}
 use Rattle.lists.proofs.ListLaws.{path-counts, pair-counts}
 use Rattle.listing.proofs.counts_for.Goals as goal

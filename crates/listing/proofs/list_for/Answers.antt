@@ -1,5 +1,3 @@
-use borrow.Author.Rules.{rules}
-use native.Mathlib.Omega.{arith}
 use lib.ListN.{length}
 use Rattle.request.specs.declared.job.Job.TheVariants.{Path, Pair}
 use Rattle.listing.proofs.ListingLaws.{listable-for, names-for}

@@ -1,7 +1,5 @@
-use borrow.Author.Rules.{rules}
-use lib.ListN.{length}
 use mathlib.Core.Path.{sym, ◌∙◌}
-use Rattle.lists.proofs.ListLaws.{PairRoom, pair-room, pair-counts, pair-laid}
+use Rattle.lists.proofs.ListLaws.{pair-room, pair-counts, pair-laid}
 use Rattle.lists.proofs.list_pair.Goals as goal
 
 pub name_path-requires : goal.name_path-requires

@@ -1,4 +1,3 @@
-use borrow.Author.Rules.{rules}
 use mathlib.Core.Path.{sym, ◌∙◌}
 use Rattle.lists.proofs.ListLaws.{path_room, path-counts, path-laid}
 use Rattle.lists.proofs.list_path.Goals as goal

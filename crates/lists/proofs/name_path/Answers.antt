@@ -1,9 +1,8 @@
-use borrow.Author.Rules.{rules}
 use native.Mathlib.Omega.{arith}
-use Prim.Native.Nat.{suc, ◌-◌}
+use Prim.Native.Nat.{◌-◌}
 use mathlib.Core.Path.{ap}
-use Rattle.path.specs.Path.{path_bucket, number}
-use Rattle.lists.proofs.Naming.{Naming, naming-starts, naming-fits, naming-turns, naming-ends, path-named}
+use Rattle.path.specs.Path.{number}
+use Rattle.lists.proofs.Naming.{naming-starts, naming-fits, naming-turns, naming-ends, path-named}
 use Rattle.lists.proofs.name_path.Goals as goal
 
 pub loop-level-init : goal.loop-level-init

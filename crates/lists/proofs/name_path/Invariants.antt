@@ -1,9 +1,6 @@
-use borrow.Author.Rules.{rules}
-use native.Mathlib.Omega.{arith}
 use Prim.Native.Nat.{suc, ◌-◌}
-use mathlib.Core.Path.{ap}
 use Rattle.path.specs.Path.{path_bucket, number}
-use Rattle.lists.proofs.Naming.{Naming, naming-starts, naming-fits, naming-turns, naming-ends, path-named}
+use Rattle.lists.proofs.Naming.{Naming}
 use Rattle.lists.proofs.name_path.Given as goal
 
 abbrev pub invariant-loop-level : goal.invariant-loop-level

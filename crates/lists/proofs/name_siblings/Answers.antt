@@ -1,9 +1,8 @@
-use borrow.Author.Rules.{rules}
 use native.Mathlib.Omega.{arith}
-use Prim.Native.Nat.{suc, ◌-◌}
+use Prim.Native.Nat.{◌-◌}
 use mathlib.Core.Path.{ap, ◌∙◌}
-use Rattle.path.specs.Path.{path_bucket, sibling_of, number}
-use Rattle.lists.proofs.Naming.{Naming, naming-starts, naming-fits, naming-turns, naming-ends, siblings-named}
+use Rattle.path.specs.Path.{sibling_of, number}
+use Rattle.lists.proofs.Naming.{naming-starts, naming-fits, naming-turns, naming-ends, siblings-named}
 use Rattle.lists.proofs.name_siblings.Goals as goal
 
 pub loop-level-init : goal.loop-level-init

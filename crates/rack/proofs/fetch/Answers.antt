@@ -1,5 +1,4 @@
 -- `rack::fetch` meets its contract: where nothing is refused, the counts cover buckets of the tree. Assumes nothing.
-use borrow.Author.Rules.{rules}
 use lib.ListN.{length}
 use Rattle.rack.proofs.RefusalLaws.{CopyPasses, copy-passes, passes-copy}
 use Rattle.rack.proofs.StandLaws.{copy_covered}
@@ -14,12 +13,12 @@ returns-then-not-is_done c =
 
 pub fetch_listed-requires : goal.fetch_listed-requires
 fetch_listed-requires c =
-    let passes : let s = c.args in CopyPasses s.h s.z (length s.tree.now) s.list.now s.whole s.least (length s.words.now) = copy-passes _ _ _ _ _ _ _ (passed _ c.of_copy-answer.result _ c.of_copy-answer.ensures c.is_done.ensures (ap not c.if-not-is_done.false)) in 
+    let passes : let s = c.args in CopyPasses s.h s.z (length s.tree.now) s.list.now s.whole s.least (length s.words.now) = copy-passes _ _ _ _ _ _ _ (passed _ c.of_copy-answer.result _ c.of_copy-answer.ensures c.is_done.ensures (ap not c.if-not-is_done.false)) in
     let p = passes in
     record { covered = copy_covered p; least_in_bounds = p.room }
 
 pub returns : goal.returns
 returns c =
-    let passes : let s = c.args in CopyPasses s.h s.z (length s.tree.now) s.list.now s.whole s.least (length s.words.now) = copy-passes _ _ _ _ _ _ _ (passed _ c.of_copy-answer.result _ c.of_copy-answer.ensures c.is_done.ensures (ap not c.if-not-is_done.false)) in 
+    let passes : let s = c.args in CopyPasses s.h s.z (length s.tree.now) s.list.now s.whole s.least (length s.words.now) = copy-passes _ _ _ _ _ _ _ (passed _ c.of_copy-answer.result _ c.of_copy-answer.ensures c.is_done.ensures (ap not c.if-not-is_done.false)) in
     let p = passes in
     done _ _ _ _ _ c.of_copy-answer.ensures (passes-copy _ _ _ _ _ _ _ p) c.fetch_listed.ensures

@@ -1,5 +1,4 @@
 -- `rack::store` meets its contract: where nothing is refused, the counts cover buckets of the tree. Assumes nothing.
-use borrow.Author.Rules.{rules}
 use native.Mathlib.Omega.{arith}
 use lib.ListN.{length}
 use Rattle.copies.proofs.CoverLaws.{whole-covered}
@@ -16,12 +15,12 @@ returns-then-not-is_done c =
 
 pub store_listed-requires : goal.store_listed-requires
 store_listed-requires c =
-    let passes : let s = c.args in CopyPasses s.h s.z (length s.tree.now) s.list.now s.whole s.least (length s.words.now) = copy-passes _ _ _ _ _ _ _ (passed _ c.of_copy-answer.result _ c.of_copy-answer.ensures c.is_done.ensures (ap not c.if-not-is_done.false)) in 
+    let passes : let s = c.args in CopyPasses s.h s.z (length s.tree.now) s.list.now s.whole s.least (length s.words.now) = copy-passes _ _ _ _ _ _ _ (passed _ c.of_copy-answer.result _ c.of_copy-answer.ensures c.is_done.ensures (ap not c.if-not-is_done.false)) in
     let p = passes in
     record { covered = whole-covered _ _ (copy_covered p); z_in_bounds = omega (arith, p.room) }
 
 pub returns : goal.returns
 returns c =
-    let passes : let s = c.args in CopyPasses s.h s.z (length s.tree.now) s.list.now s.whole s.least (length s.words.now) = copy-passes _ _ _ _ _ _ _ (passed _ c.of_copy-answer.result _ c.of_copy-answer.ensures c.is_done.ensures (ap not c.if-not-is_done.false)) in 
+    let passes : let s = c.args in CopyPasses s.h s.z (length s.tree.now) s.list.now s.whole s.least (length s.words.now) = copy-passes _ _ _ _ _ _ _ (passed _ c.of_copy-answer.result _ c.of_copy-answer.ensures c.is_done.ensures (ap not c.if-not-is_done.false)) in
     let p = passes in
     done _ _ _ _ _ c.of_copy-answer.ensures (passes-copy _ _ _ _ _ _ _ p) c.store_listed.ensures

@@ -1,5 +1,3 @@
-use borrow.Author.Rules.{rules}
-use Rattle.refusal.specs.Refusal.{first_given}
 use Rattle.request.specs.Tables.{request_rows}
 use Rattle.request.proofs.why_request.Goals as goal
 

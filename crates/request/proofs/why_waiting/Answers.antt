@@ -1,4 +1,3 @@
-use borrow.Author.Rules.{rules}
 use Rattle.refusal.specs.Refusal.{first_given}
 use Rattle.request.proofs.why_waiting.Goals as goal
 

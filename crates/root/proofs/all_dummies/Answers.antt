@@ -1,13 +1,8 @@
-use borrow.Author.Rules.{rules}
 use native.Mathlib.Omega.{arith}
-use Prim.Native.Nat.{◌≤◌, ◌-◌}
+use Prim.Native.Nat.{◌-◌}
 use mathlib.Core.Bool.{true}
-use mathlib.Core.Path.{◌≡◌, sym, ap, ◌∙◌}
-use borrow.Author.Tests.{not-true, not-false}
-use lib.ListN.{take}
+use mathlib.Core.Path.{sym, ap, ◌∙◌}
 use Rattle.record.specs.Standing.{is_dummy}
-use Rattle.record.specs.Words.{records}
-use Rattle.record.specs.Many.{every}
 use Rattle.record.proofs.PlacesLaws.{pass-starts, pass-turns, pass-fails, pass-ends}
 use Rattle.root.proofs.all_dummies.Goals as goal
 

@@ -1,5 +1,4 @@
 -- `all_real` meets its contract. Assumes nothing.
-use borrow.Author.Rules.{rules}
 use Rattle.root.proofs.Slots.{full-slots}
 use Rattle.root.proofs.all_real.Goals as goal
 

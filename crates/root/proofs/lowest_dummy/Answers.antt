@@ -1,12 +1,9 @@
 -- `lowest_dummy` meets its contract: no place before `place` is the dummy. Assumes nothing.
-use borrow.Author.Rules.{rules}
 use native.Mathlib.Omega.{arith}
-use Prim.Native.Nat.{◌≤◌, ◌-◌}
+use Prim.Native.Nat.{◌-◌}
 use mathlib.Core.Path.{◌≡◌, sym, ap, ◌∙◌}
 use Rattle.record.specs.Standing.{is_dummy}
-use Rattle.record.specs.Words.{records}
-use Rattle.way.specs.Evict.{seek}
-use Rattle.way.proofs.EvictLaws.{seek_from, seek-starts, seek-past, seek_found, seek-turns, seek-ends}
+use Rattle.way.proofs.EvictLaws.{seek-starts, seek-past, seek_found, seek-turns, seek-ends}
 use Rattle.root.proofs.lowest_dummy.Goals as goal
 
 pub loop-place-init : goal.loop-place-init

@@ -1,12 +1,10 @@
 -- `lowest_dummy` meets its contract: no place before `place` is the dummy. Assumes nothing.
-use borrow.Author.Rules.{rules}
-use native.Mathlib.Omega.{arith}
 use Prim.Native.Nat.{◌≤◌, ◌-◌}
-use mathlib.Core.Path.{◌≡◌, sym, ap, ◌∙◌}
+use mathlib.Core.Path.{◌≡◌}
 use Rattle.record.specs.Standing.{is_dummy}
 use Rattle.record.specs.Words.{records}
 use Rattle.way.specs.Evict.{seek}
-use Rattle.way.proofs.EvictLaws.{seek_from, seek-starts, seek-past, seek_found, seek-turns, seek-ends}
+use Rattle.way.proofs.EvictLaws.{seek_from}
 use Rattle.root.proofs.lowest_dummy.Given as goal
 
 abbrev pub invariant-loop-place : goal.invariant-loop-place

@@ -1,5 +1,4 @@
 -- `said::print_said` meets its contract: each case by the numbers it has. Assumes nothing.
-use borrow.Author.Rules.{rules}
 use Rattle.said.proofs.SaidLaws.{said-as}
 use Rattle.said.proofs.print_said.Goals as goal
 

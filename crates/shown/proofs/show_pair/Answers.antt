@@ -1,5 +1,4 @@
 -- `show_pair`: the first way, each path's siblings, and the slots of both paths. Assumes nothing.
-use borrow.Author.Rules.{rules}
 use native.Mathlib.Omega.{arith}
 use Rattle.shown.proofs.ShownLaws.{pair-shown}
 use Rattle.shown.proofs.show_pair.Goals as goal

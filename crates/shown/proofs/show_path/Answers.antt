@@ -1,5 +1,4 @@
 -- `show_path`: the way, then the siblings. Assumes nothing.
-use borrow.Author.Rules.{rules}
 use Rattle.shown.proofs.ShownLaws.{path-shown}
 use Rattle.shown.proofs.show_path.Goals as goal
 

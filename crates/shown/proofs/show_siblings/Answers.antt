@@ -1,5 +1,4 @@
 -- `show_siblings`: the dummy at the place of level 1, then the siblings from level 2 on. Assumes nothing.
-use borrow.Author.Rules.{rules}
 use Rattle.shown.proofs.ShownLaws.{siblings-shown}
 use Rattle.shown.proofs.show_siblings.Goals as goal
 

@@ -1,5 +1,4 @@
 -- `all_sound` meets its contract. Assumes nothing.
-use borrow.Author.Rules.{rules}
 use Rattle.sound.proofs.Checking.{passes, refuses}
 use mathlib.Core.Path.{ap}
 use mathlib.Core.Bool.{not}

@@ -1,14 +1,10 @@
 -- `bucket_sound` meets its contract: the records before place i have passed. Assumes nothing.
 use borrow.Author.Rules.{rules}
 use native.Mathlib.Omega.{arith}
-use Prim.Native.Nat.{◌-◌, ◌≤◌}
+use Prim.Native.Nat.{◌-◌}
 use mathlib.Core.Bool.{true, not}
-use mathlib.Core.Path.{◌≡◌, sym, ap}
-use lib.ListN.{take}
-use Rattle.record.specs.Words.{records}
-use Rattle.record.specs.Many.{every}
+use mathlib.Core.Path.{sym, ap}
 use Rattle.record.proofs.PlacesLaws.{pass-starts, pass-turns, pass-fails, pass-ends}
-use Rattle.sound.specs.Sound.{sound}
 use Rattle.sound.proofs.Checking.{passes, refuses}
 use Rattle.sound.proofs.bucket_sound.Goals as goal
 

@@ -1,15 +1,11 @@
 -- `bucket_sound` meets its contract: the records before place i have passed. Assumes nothing.
-use borrow.Author.Rules.{rules}
-use native.Mathlib.Omega.{arith}
 use Prim.Native.Nat.{◌-◌, ◌≤◌}
-use mathlib.Core.Bool.{true, not}
-use mathlib.Core.Path.{◌≡◌, sym, ap}
+use mathlib.Core.Bool.{true}
+use mathlib.Core.Path.{◌≡◌}
 use lib.ListN.{take}
 use Rattle.record.specs.Words.{records}
 use Rattle.record.specs.Many.{every}
-use Rattle.record.proofs.PlacesLaws.{pass-starts, pass-turns, pass-fails, pass-ends}
 use Rattle.sound.specs.Sound.{sound}
-use Rattle.sound.proofs.Checking.{passes, refuses}
 use Rattle.sound.proofs.bucket_sound.Given as goal
 
 abbrev pub invariant-loop-i : goal.invariant-loop-i

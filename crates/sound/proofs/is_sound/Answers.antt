@@ -1,5 +1,4 @@
 -- `is_sound` meets its contract: the tests are those of `sound`, in its order. Assumes nothing.
-use borrow.Author.Rules.{rules}
 use native.Mathlib.Omega.{arith}
 use Rattle.record.proofs.StandingLaws.{proper-true}
 use Rattle.sound.specs.Sound.{sound}

@@ -1,15 +1,10 @@
 -- `path_sound` meets its contract: the levels before `level` have passed, and a is where its bucket begins.
 -- Assumes nothing.
-use borrow.Author.Rules.{rules}
 use native.Mathlib.Omega.{arith}
-use Prim.Native.Nat.{suc, ◌-◌}
-use mathlib.Core.List.{◌∷◌}
+use Prim.Native.Nat.{◌-◌}
 use mathlib.Core.Path.{◌∙◌, ap}
-use Rattle.record.specs.Many.{every}
-use Rattle.path.specs.Path.{path_bucket}
-use Rattle.sound.specs.Sound.{sound, path_sound}
-use Rattle.sound.specs.Fetched.{shown_in}
-use Rattle.sound.proofs.Checking.{passes, refuses, Passed, passed-starts, passed-turns, passed-fails, passed-ends, from_one, Walking, walking-turns, walking-ends, bucket-shown}
+use Rattle.sound.specs.Sound.{path_sound}
+use Rattle.sound.proofs.Checking.{passes, refuses, passed-starts, passed-turns, passed-fails, passed-ends, from_one, walking-turns, walking-ends, bucket-shown}
 use mathlib.Core.Bool.{not}
 use Rattle.sound.proofs.path_sound.Goals as goal
 

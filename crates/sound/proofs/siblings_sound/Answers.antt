@@ -1,13 +1,10 @@
 -- `siblings_sound` meets its contract: the levels before `level` have passed. Assumes nothing.
-use borrow.Author.Rules.{rules}
 use native.Mathlib.Omega.{arith}
-use Prim.Native.Nat.{suc, ◌-◌}
+use Prim.Native.Nat.{◌-◌}
 use Rattle.record.specs.Standing.{dummy}
 use Rattle.record.proofs.WordsLaws.{records-at}
-use Rattle.path.specs.Path.{path_bucket, sibling_of}
-use Rattle.sound.specs.Sound.{sound, siblings_sound}
-use Rattle.sound.specs.Fetched.{beside_in}
-use Rattle.sound.proofs.Checking.{passes, refuses, Passed, passed-starts, passed-turns, passed-fails, passed-ends}
+use Rattle.sound.specs.Sound.{siblings_sound}
+use Rattle.sound.proofs.Checking.{passes, refuses, passed-starts, passed-turns, passed-fails, passed-ends}
 use mathlib.Core.Path.{ap}
 use mathlib.Core.Bool.{not}
 use Rattle.sound.proofs.siblings_sound.Goals as goal

@@ -1,12 +1,9 @@
 -- `is_borne`: of the records looked at so far none has the stamp. Assumes nothing.
-use borrow.Author.Rules.{rules}
 use native.Mathlib.Omega.{arith}
 use Prim.Native.Nat.{◌-◌}
-use mathlib.Core.Logic.{⊎_elim}
-use mathlib.Core.Path.{◌≡◌, sym, refl, ◌∙◌}
-use borrow.Author.Tests.{not-true, not-false}
+use mathlib.Core.Path.{sym, refl, ◌∙◌}
 use Rattle.record.proofs.ManyLaws.{bears-dummy, bears-own, bears-other}
-use Rattle.stamps.proofs.StampLaws.{borne_from, borne-found, borne-turns, borne-ends}
+use Rattle.stamps.proofs.StampLaws.{borne-found, borne-turns, borne-ends}
 use Rattle.stamps.proofs.is_borne.Goals as goal
 use Rattle.stamps.proofs.is_borne.Goals.{then-other-stamp+else-not-is_dummy, else-other-stamp}
 

@@ -1,13 +1,7 @@
 -- `stamp_twice`: no record looked at so far has a stamp that stands again behind it. Assumes nothing.
-use borrow.Author.Rules.{rules}
 use native.Mathlib.Omega.{arith}
 use Prim.Native.Nat.{◌-◌}
-use mathlib.Core.Logic.{⊎_elim}
-use mathlib.Core.Path.{◌≡◌, sym, refl, ◌∙◌}
-use borrow.Author.Tests.{not-true, not-false}
-use lib.ListN.{drop}
-use Rattle.record.specs.Many.{stamp_twice}
-use Rattle.record.specs.Words.{records}
+use mathlib.Core.Path.{sym, refl, ◌∙◌}
 use Rattle.stamps.proofs.StampLaws.{twice_found, twice-skips, twice-turns, twice_ends}
 use Rattle.stamps.proofs.stamp_twice.Goals as goal
 use Rattle.stamps.proofs.stamp_twice.Goals.{then-not-is_dummy+else-is_borne, else-not-is_dummy}

@@ -1,14 +1,9 @@
 -- `stamp_twice`: no record looked at so far has a stamp that stands again behind it. Assumes nothing.
-use borrow.Author.Rules.{rules}
-use native.Mathlib.Omega.{arith}
 use Prim.Native.Nat.{◌-◌}
-use mathlib.Core.Logic.{⊎_elim}
-use mathlib.Core.Path.{◌≡◌, sym, refl, ◌∙◌}
-use borrow.Author.Tests.{not-true, not-false}
+use mathlib.Core.Path.{◌≡◌}
 use lib.ListN.{drop}
 use Rattle.record.specs.Many.{stamp_twice}
 use Rattle.record.specs.Words.{records}
-use Rattle.stamps.proofs.StampLaws.{twice_found, twice-skips, twice-turns, twice_ends}
 use Rattle.stamps.proofs.stamp_twice.Given as goal
 
 abbrev pub invariant-loop-i : goal.invariant-loop-i

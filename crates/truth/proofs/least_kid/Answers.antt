@@ -1,5 +1,4 @@
 -- `least_kid` meets its contract. Assumes nothing.
-use borrow.Author.Rules.{rules}
 use native.Mathlib.Omega.{arith}
 use Rattle.truth.proofs.LevelLaws.{kids-none, kid-ends, kids-both}
 use Rattle.truth.proofs.least_kid.Goals as goal

@@ -1,5 +1,4 @@
 -- `least_true` meets its contract. Assumes nothing.
-use borrow.Author.Rules.{rules}
 use native.Mathlib.Omega.{arith}
 use Rattle.truth.proofs.LevelLaws.{level-ends, level-true}
 use Rattle.truth.proofs.least_true.Goals as goal

@@ -1,12 +1,9 @@
 -- `leasts_true` meets its contract: the levels before `level` have passed. Assumes nothing.
-use borrow.Author.Rules.{rules}
 use native.Mathlib.Omega.{arith}
-use Prim.Native.Nat.{suc, ◌-◌, ◌≤◌}
+use Prim.Native.Nat.{◌-◌}
 use mathlib.Core.Path.{◌∙◌, ap}
-use Rattle.record.specs.declared.Rule.{Rule}
-use Rattle.truth.specs.Leasts.{leasts_true, true_at}
-use Rattle.sound.specs.Fetched.{fetched_in}
-use Rattle.sound.proofs.Checking.{passes, refuses, Passed, passed-starts, passed-turns, passed-fails, passed-ends, from_one}
+use Rattle.truth.specs.Leasts.{leasts_true}
+use Rattle.sound.proofs.Checking.{passes, refuses, passed-starts, passed-turns, passed-fails, passed-ends, from_one}
 use mathlib.Core.Bool.{not}
 use Rattle.truth.proofs.leasts_true.Goals as goal
 

@@ -1,8 +1,7 @@
 -- `evict`: all levels below `level` have been filled. Assumes nothing.
-use borrow.Author.Rules.{rules}
 use native.Mathlib.Omega.{arith}
-use Rattle.way.specs.Evict.{fits, evict}
-use Rattle.way.proofs.EvictLaws.{Evicting, evicting-starts, evicting-turns, evicting-ends, level-room}
+use Rattle.way.specs.Evict.{evict}
+use Rattle.way.proofs.EvictLaws.{evicting-starts, evicting-turns, evicting-ends, level-room}
 use Rattle.way.proofs.evict.Goals as goal
 
 pub loop-level-init : goal.loop-level-init

@@ -1,8 +1,6 @@
 -- `evict`: all levels below `level` have been filled. Assumes nothing.
-use borrow.Author.Rules.{rules}
-use native.Mathlib.Omega.{arith}
-use Rattle.way.specs.Evict.{fits, evict}
-use Rattle.way.proofs.EvictLaws.{Evicting, evicting-starts, evicting-turns, evicting-ends, level-room}
+use Rattle.way.specs.Evict.{fits}
+use Rattle.way.proofs.EvictLaws.{Evicting}
 use Rattle.way.proofs.evict.Given as goal
 
 abbrev pub invariant-loop-level : goal.invariant-loop-level

@@ -1,8 +1,6 @@
 -- `fill_level`: the first k slots of the level have been filled. Assumes nothing.
-use borrow.Author.Rules.{rules}
 use Prim.Native.Nat.{◌-◌}
-use Rattle.way.specs.Evict.{fits}
-use Rattle.way.proofs.EvictLaws.{Filling, filling-starts, filling-turns, filling-ends}
+use Rattle.way.proofs.EvictLaws.{filling-starts, filling-turns, filling-ends}
 use Rattle.way.proofs.fill_level.Goals as goal
 
 pub loop-k-init : goal.loop-k-init

@@ -1,8 +1,7 @@
 -- `fill_level`: the first k slots of the level have been filled. Assumes nothing.
-use borrow.Author.Rules.{rules}
 use Prim.Native.Nat.{◌-◌}
 use Rattle.way.specs.Evict.{fits}
-use Rattle.way.proofs.EvictLaws.{Filling, filling-starts, filling-turns, filling-ends}
+use Rattle.way.proofs.EvictLaws.{Filling}
 use Rattle.way.proofs.fill_level.Given as goal
 
 abbrev pub invariant-loop-k : goal.invariant-loop-k

@@ -1,13 +1,9 @@
 -- `first_fit`: no record passed so far may move. Assumes nothing.
-use borrow.Author.Rules.{rules}
-use native.Mathlib.Omega.{arith}
-use Prim.Native.Nat.{◌-◌, ◌/◌, ◌^◌}
-use mathlib.Core.Logic.{⊎_elim}
-use mathlib.Core.Path.{◌≡◌, sym, ◌∙◌}
-use borrow.Author.Tests.{not-true, not-false}
+use Prim.Native.Nat.{◌-◌}
+use mathlib.Core.Path.{◌≡◌}
 use Rattle.record.specs.Words.{records}
 use Rattle.way.specs.Evict.{seek}
-use Rattle.way.proofs.EvictLaws.{seek_from, seek-starts, seek-turns, seek_found, seek-ends, agrees, agrees-dummy, agrees-own, agrees-other, agrees-fits}
+use Rattle.way.proofs.EvictLaws.{seek_from, agrees}
 use Rattle.way.proofs.first_fit.Given as goal
 
 abbrev pub invariant-loop-i : goal.invariant-loop-i

@@ -1,8 +1,6 @@
 -- `pull`: a real slot, no record that fits, or a move made by two stores. Assumes nothing.
-use borrow.Author.Rules.{rules}
 use native.Mathlib.Omega.{arith}
 use mathlib.Core.Path.{sym, ap, ◌∙◌}
-use borrow.Author.Tests.{not-true, not-false}
 use Rattle.record.specs.Words.{records}
 use Rattle.way.proofs.EvictLaws.{pull-real, pull-none, pull-moves}
 use Rattle.way.proofs.pull.Goals as goal

@@ -1,5 +1,4 @@
 -- `copies::layout::bucket_start` meets its contract. Assumes nothing.
-use borrow.Author.Rules.{rules}
 use Rattle.copies.proofs.layout.bucket_start.Goals as goal
 
 pub overflow_mul-result : goal.overflow_mul-result

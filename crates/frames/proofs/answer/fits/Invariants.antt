@@ -1,9 +1,7 @@
 -- `frames::answer::fits` meets its contract. The loop: `Counting`. Assumes nothing.
-use borrow.Author.Rules.{rules}
-use native.Mathlib.Omega.{arith}
 use Prim.Native.Nat.{◌-◌}
 use lib.ListN.{length}
-use Rattle.frames.proofs.AnswerLaws.{Counting, counting-starts, counting-turns, counting-fails, counting-ends}
+use Rattle.frames.proofs.AnswerLaws.{Counting}
 use Rattle.frames.proofs.answer.fits.Given as goal
 
 abbrev pub invariant-loop-i : goal.invariant-loop-i

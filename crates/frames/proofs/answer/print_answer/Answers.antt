@@ -1,11 +1,8 @@
 -- `frames::answer::print_answer` meets its contract. The loop: `Writing`. Assumes nothing.
-use borrow.Author.Rules.{rules}
 use native.Mathlib.Omega.{arith}
 use Prim.Native.Nat.{◌-◌}
 use mathlib.Core.Path.{sym, ◌∙◌}
-use lib.ListN.{length}
-use borrow.Author.Tests.{not-true, not-false}
-use Rattle.frames.proofs.AnswerLaws.{Writing, writing-starts, writing-ends, next_fits, next-within, next-turn, unfit}
+use Rattle.frames.proofs.AnswerLaws.{writing-starts, writing-ends, next_fits, next-within, next-turn, unfit}
 use Rattle.frames.proofs.answer.print_answer.Goals as goal
 
 pub returns-then-not-fits : goal.returns-then-not-fits

@@ -1,5 +1,4 @@
 -- `frames::answer::print_unreadable` meets its contract. Two bytes, or nothing. Assumes nothing.
-use borrow.Author.Rules.{rules}
 use Rattle.frames.proofs.AnswerLaws.{unreadable-unfit, unreadable-written}
 use Rattle.frames.proofs.answer.print_unreadable.Goals as goal
 

@@ -1,9 +1,8 @@
 -- `frames::framing::append` meets its contract. The loop: `Appending`. Assumes nothing.
-use borrow.Author.Rules.{rules}
 use native.Mathlib.Omega.{arith}
 use Prim.Native.Nat.{◌-◌}
-use lib.ListN.{drop, length-drop}
-use Rattle.frames.proofs.TakeLaws.{Appending, appending-starts, appending-turns, appending-ends}
+use lib.ListN.{length-drop}
+use Rattle.frames.proofs.TakeLaws.{appending-starts, appending-turns, appending-ends}
 use Rattle.frames.proofs.framing.append.Goals as goal
 
 pub loop-i-init : goal.loop-i-init

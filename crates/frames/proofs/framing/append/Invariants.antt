@@ -1,9 +1,7 @@
 -- `frames::framing::append` meets its contract. The loop: `Appending`. Assumes nothing.
-use borrow.Author.Rules.{rules}
-use native.Mathlib.Omega.{arith}
 use Prim.Native.Nat.{◌-◌}
-use lib.ListN.{drop, length-drop}
-use Rattle.frames.proofs.TakeLaws.{Appending, appending-starts, appending-turns, appending-ends}
+use lib.ListN.{drop}
+use Rattle.frames.proofs.TakeLaws.{Appending}
 use Rattle.frames.proofs.framing.append.Given as goal
 
 abbrev pub invariant-loop-i : goal.invariant-loop-i

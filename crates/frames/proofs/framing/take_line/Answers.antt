@@ -1,5 +1,4 @@
 -- `frames::framing::take_line` meets its contract. What is kept is what was held and what was appended. Assumes nothing.
-use borrow.Author.Rules.{rules}
 use native.Mathlib.Omega.{arith}
 use Rattle.frames.proofs.TakeLaws.{room_for, enough-left, takes-end, takes_all}
 use Rattle.frames.proofs.framing.take_line.Goals as goal

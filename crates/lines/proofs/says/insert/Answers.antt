@@ -1,7 +1,5 @@
 -- `lines::says::insert` meets its contract. The numbers behind the word say it, or nothing does. Assumes nothing.
-use borrow.Author.Rules.{rules}
 use mathlib.Core.Path.{refl}
-use borrow.Author.Tests.{not-true, not-false}
 use Rattle.lines.specs.Says.{insert_kind}
 use Rattle.lines.proofs.SaysLaws.{said, unsaid}
 use Rattle.lines.proofs.says.insert.Goals as goal

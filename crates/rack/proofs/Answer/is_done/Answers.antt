@@ -1,5 +1,4 @@
 -- `rack::Answer::is_done` meets its contract: it tests the answer's number. Assumes nothing.
-use borrow.Author.Rules.{rules}
 use Rattle.rack.proofs.Answer.is_done.Goals as goal
 
 pub returns : goal.returns

@@ -1,10 +1,7 @@
 -- `rack::refusing::any_outside` meets its contract. The loop: what is left of the list decides. Assumes nothing.
-use borrow.Author.Rules.{rules}
 use native.Mathlib.Omega.{arith}
-use Prim.Native.Nat.{◌-◌, ◌≤◌}
-use mathlib.Core.Path.{◌≡◌, refl, sym, ◌∙◌}
-use lib.ListN.{take, drop}
-use Rattle.rack.specs.Answers.{any_outside}
+use Prim.Native.Nat.{◌-◌}
+use mathlib.Core.Path.{refl, sym, ◌∙◌}
 use Rattle.copies.proofs.LayoutLaws.{leaves-few}
 use Rattle.rack.proofs.RefusalLaws.{low-outside, high-outside, not-outside, outside-next, none-outside}
 use Rattle.rack.proofs.refusing.any_outside.Goals as goal

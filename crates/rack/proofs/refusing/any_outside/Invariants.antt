@@ -1,12 +1,8 @@
 -- `rack::refusing::any_outside` meets its contract. The loop: what is left of the list decides. Assumes nothing.
-use borrow.Author.Rules.{rules}
-use native.Mathlib.Omega.{arith}
 use Prim.Native.Nat.{◌-◌, ◌≤◌}
-use mathlib.Core.Path.{◌≡◌, refl, sym, ◌∙◌}
+use mathlib.Core.Path.{◌≡◌}
 use lib.ListN.{take, drop}
 use Rattle.rack.specs.Answers.{any_outside}
-use Rattle.copies.proofs.LayoutLaws.{leaves-few}
-use Rattle.rack.proofs.RefusalLaws.{low-outside, high-outside, not-outside, outside-next, none-outside}
 use Rattle.rack.proofs.refusing.any_outside.Given as goal
 
 abbrev pub invariant-loop-i : goal.invariant-loop-i

@@ -1,5 +1,4 @@
 -- `rack::refusing::few_words` meets its contract, by division. Assumes nothing.
-use borrow.Author.Rules.{rules}
 use native.Mathlib.Omega.{arith}
 use Rattle.rack.proofs.RefusalLaws.{few-for-whole, whole-fit, few-for-least}
 use Rattle.rack.proofs.refusing.few_words.Goals as goal

@@ -1,7 +1,6 @@
 -- `rack::refusing::of_fill` meets its contract: a return for each row of the table. Assumes nothing.
-use borrow.Author.Rules.{rules}
 use mathlib.Core.Path.{sym, ◌∙◌}
-use borrow.Author.Tests.{not-true, not-false, eq-eqb, ne_eqb}
+use borrow.Author.Tests.{eq-eqb, ne_eqb}
 use Rattle.refusal.specs.Refusal.{first_given}
 use Rattle.rack.proofs.refusing.of_fill.Goals as goal
 

@@ -1,4 +1,3 @@
-use borrow.Author.Rules.{rules}
 use Rattle.request.proofs.job.job_of.Goals as goal
 
 pub returns-in-Insert : goal.returns-in-Insert

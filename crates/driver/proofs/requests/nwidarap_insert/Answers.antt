@@ -1,0 +1,5 @@
+-- `nwidarap_insert` meets its contract: as `begin`. Assumes nothing.
+use Rattle.driver.proofs.requests.nwidarap_insert.Goals as goal
+
+pub returns : goal.returns
+returns c = c.begin.ensures
