@@ -33,8 +33,8 @@ slice_bounds-answer_line-end c =
     let t = c.take_line-got.ensures in
     sym (length-take-le _ _ (omega (arith, takes-within _ _ _ _ _ _ t, takes-room _ _ _ _ _ _ t)))
 
-pub slice_bounds-answer_line-end : goal.slice_bounds-answer_line-end
-slice_bounds-answer_line-end c = omega (arith, room-left _ _ _ _ _ _ _ _ _ _ c.loop-line.invariant)
+pub slice_bounds-answer_line-end-then-got : goal.slice_bounds-answer_line-end-then-got
+slice_bounds-answer_line-end-then-got c = omega (arith, room-left _ _ _ _ _ _ _ _ _ _ c.loop-line.invariant)
 
 pub slice_bounds-answer_line-count : goal.slice_bounds-answer_line-count
 slice_bounds-answer_line-count c = room-left _ _ _ _ _ _ _ _ _ _ c.loop-line.invariant
