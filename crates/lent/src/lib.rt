@@ -1,7 +1,7 @@
 // The second entrance: document 01, "one thin second entrance keeps the card where the driver lent it, and equals the first."
 //
 // Each function takes `&mut Card` and the numbers and slices of a call by value, makes that call and stores its card. Its promise is
-// that call's, at the card that stood behind the reference and the card that stands there afterwards. Stands on `card` and `shapes`.
+// that call's, at the card that stood behind the reference and the card that stands there afterwards. Stands on `card`.
 //
 // Each has a shape of which `shapes` has the law: `let done = card.CALL(..); *card = done.card; done.answer`.
 #![tactic(auto)]

@@ -73,3 +73,51 @@ pub fn with_one_and_slice<A, F: FnOnce(&mut Card, A, &mut [u64]) -> Answer>(
         answer: answer,
     }
 }
+
+#[cfg(test)]
+mod tests {
+    use answers::Answer;
+    use card::Card;
+    use request::Request;
+
+    // Each law takes a call of the card, by value or on a lent one, and answers as the call does: on an empty list no event is least
+    // (8) or can be taken out, and nothing waits to be finished or withdrawn (3).
+    #[test]
+    fn each_law_takes_a_call(rt: HostRuntime) {
+        let mut words = [0u64; 64];
+        let mut card = Card::start(0, 0, 0, 0).card;
+        let started = shapes::of_four(
+            &mut card,
+            2,
+            1,
+            1,
+            16,
+            |_k: Card, h: u64, z: u64, r: u64, t: u64| Card::start(h, z, r, t),
+        );
+        assert!(rt; matches!(started, Answer::Started), "a start");
+        let least = shapes::of_card(&mut card, |k: Card| k.find_min());
+        assert!(rt; matches!(least, Answer::Refused(8)), "a look at the least");
+        let finished = shapes::of_card_and_slice(
+            &mut card,
+            &mut words,
+            |k: Card, w: &mut [u64]| k.finish(w),
+        );
+        assert!(rt; matches!(finished, Answer::Refused(3)), "a finish");
+        let begun = shapes::of_one_and_slice(
+            &mut card,
+            Request::Extract,
+            &mut words,
+            |k: Card, r: Request, w: &mut [u64]| k.begin(r, w),
+        );
+        assert!(rt; matches!(begun, Answer::Refused(8)), "a begin");
+        let withdrawn = super::with_card(
+            card,
+            |k: &mut Card| shapes::of_card(k, |c: Card| c.withdraw()),
+        );
+        assert!(rt;
+            matches!(withdrawn.answer, Answer::Refused(3)),
+            "a withdrawal"
+        );
+        assert!(rt; withdrawn.card.t == 0, "the card that was held");
+    }
+}
