@@ -1,3 +1,4 @@
+-- `load` is safe and ends. Assumes nothing.
 use Rattle.std.proofs.Common.{◌≤◌}
 use Rattle.probe.proofs.words.load.Given as goal
 
