@@ -1,5 +1,6 @@
 -- What a call on a lent card comes to where the card is held and handed back. `pre` and `post` are what the call asks and promises,
--- whatever that is; of a reference only what stands behind it counts. Assumes nothing.
+-- whatever that is; of a reference only what stands behind it counts. std says it of a call with one argument alone
+-- (`FnOnceReturnsAtMut`). Assumes nothing.
 use Rattle.std.specs.Prelude.{ℕ, List, ◌≡◌}
 use denote.MutBor.{MutBor}
 use Rattle.card.specs.declared.Card.{Card}

@@ -81,7 +81,7 @@ mod tests {
     use request::Request;
 
     // Each law takes a call of the card, by value or on a lent one, and answers as the call does: on an empty list no event is least
-    // (8) or can be taken out, and nothing waits to be finished or withdrawn (3).
+    // (8) or can be taken out, nothing waits to be finished or withdrawn (3), and a height of 0 is no size (1).
     #[test]
     fn each_law_takes_a_call(rt: HostRuntime) {
         let mut words = [0u64; 64];
@@ -118,6 +118,37 @@ mod tests {
             matches!(withdrawn.answer, Answer::Refused(3)),
             "a withdrawal"
         );
-        assert!(rt; withdrawn.card.t == 0, "the card that was held");
+        let again = super::with_four(
+            card,
+            0,
+            1,
+            1,
+            16,
+            |_k: &mut Card, h: u64, z: u64, r: u64, t: u64| Card::start(h, z, r, t).answer,
+        );
+        assert!(rt;
+            matches!(again.answer, Answer::Refused(1)),
+            "a start of height 0"
+        );
+        let ended = super::with_slice(
+            card,
+            &mut words,
+            |k: &mut Card, w: &mut [u64]| k.finish(w).answer,
+        );
+        assert!(rt;
+            matches!(ended.answer, Answer::Refused(3)),
+            "a finish of a card that is held"
+        );
+        let asked = super::with_one_and_slice(
+            card,
+            Request::Extract,
+            &mut words,
+            |k: &mut Card, r: Request, w: &mut [u64]| k.begin(r, w).answer,
+        );
+        assert!(rt;
+            matches!(asked.answer, Answer::Refused(8)),
+            "a begin of a card that is held"
+        );
+        assert!(rt; asked.card.t == 0, "the card that was held");
     }
 }

@@ -1,2 +1,2 @@
--- What a reader must believe of the shapes: what a call on a lent card hands back, and what it does to a lent slice.
+-- What a reader must believe of the shapes: what a call asks and promises of words that are lent to it.
 pub mod Lending

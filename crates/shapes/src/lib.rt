@@ -5,7 +5,7 @@
 // behind the reference, and promises of that card and of the one that stands there afterwards. Stands on `answers` and `card`.
 #![tactic(auto)]
 
-ghost use Rattle.shapes.specs.Lending.{returned, TakesWords, GivesWords};
+ghost use Rattle.shapes.specs.Lending.{TakesWords, GivesWords};
 
 use answers::Answer;
 use card::{Card, Done};
@@ -13,7 +13,7 @@ use card::{Card, Done};
 // A call on a lent card and nothing else.
 pub fn of_card<F: FnOnce(Card) -> Done>(card: &mut Card, call: F) -> Answer
     requires { F.pre call card.old }
-    ensures { F.post call card.old (returned card.new result) }
+    ensures { F.post call card.old (record { card = card.new; answer = result }) }
 {
     let done = call(*card);
     *card = done.card;
@@ -30,7 +30,7 @@ pub fn of_four<A, B, C, D, F: FnOnce(Card, A, B, C, D) -> Done>(
     call: F,
 ) -> Answer
     requires { F.pre call card.old a b c d }
-    ensures { F.post call card.old a b c d (returned card.new result) }
+    ensures { F.post call card.old a b c d (record { card = card.new; answer = result }) }
 {
     let done = call(*card, a, b, c, d);
     *card = done.card;
@@ -44,7 +44,7 @@ pub fn of_card_and_slice<F: FnOnce(Card, &mut [u64]) -> Done>(
     call: F,
 ) -> Answer
     requires { TakesWords (F.pre call card.old) words.old }
-    ensures { GivesWords (F.post call card.old) words.old (returned card.new result) words.new }
+    ensures { GivesWords (F.post call card.old) words.old (record { card = card.new; answer = result }) words.new }
 {
     let done = call(*card, words);
     *card = done.card;
@@ -59,7 +59,7 @@ pub fn of_one_and_slice<A, F: FnOnce(Card, A, &mut [u64]) -> Done>(
     call: F,
 ) -> Answer
     requires { TakesWords (F.pre call card.old a) words.old }
-    ensures { GivesWords (F.post call card.old a) words.old (returned card.new result) words.new }
+    ensures { GivesWords (F.post call card.old a) words.old (record { card = card.new; answer = result }) words.new }
 {
     let done = call(*card, a, words);
     *card = done.card;
