@@ -17,34 +17,24 @@ pub fn size(desk: Desk, h: u64, z: u64, r: u64, t: u64, tree: &mut [u64]) -> Tur
     ensures { Steps desk (Line.Size h z r t) tree.old tree.new result }
 {
     let done = Card::start(h, z, r, t);
-    let sizes = Sizes {
-        h: h,
-        z: z,
-        r: r,
-        t: t,
-    };
+    let sizes = Sizes { h, z, r, t };
     if !sizes.in_range() {
-        let answer = done.answer;
-        return steps::kept_by(desk, answer);
+        return steps::kept_by(desk, done.answer);
     }
     let words = steps::tree_words(h, z);
-    if words > TREE_MOST {
+    if words > TREE_MOST || words > tree.len() {
         return steps::unread_by(desk);
     }
-    if words > tree.len() {
-        return steps::unread_by(desk);
-    }
-    rack::fill(&mut tree[..words], h, z);
+    // A tree of these sizes' words is not refused.
+    let _ = rack::fill(&mut tree[..words], h, z);
     steps::told_by(done)
 }
 
 pub fn min(desk: Desk) -> Turn
     ensures { result ≡ min_of desk }
 {
-    if !desk.sized {
+    let Some(card) = desk else {
         return steps::unread_by(desk);
-    }
-    let card = desk.card;
-    let done = card.find_min();
-    steps::told_by(done)
+    };
+    steps::told_by(card.find_min())
 }

@@ -10,7 +10,7 @@ use Rattle.answers.specs.declared.Answer.TheVariants.{Started, Listed, Least, Wi
 -- the paper's number of each case: 0, or the refusal's
 abbrev pub number_of : Answer → ℕ
 number_of Started = 0
-number_of (Listed whole least) = 0
+number_of (Listed n) = 0
 number_of (Least event words) = 0
 number_of Withdrawn = 0
 number_of (Inserted label stamp words) = 0
@@ -25,7 +25,7 @@ no_values = replicate 6 0
 
 abbrev pub values_of : Answer → List ℕ
 values_of Started = no_values
-values_of (Listed whole least) = whole ∷ least ∷ 0 ∷ 0 ∷ 0 ∷ 0 ∷ []
+values_of (Listed n) = n.whole ∷ n.least ∷ 0 ∷ 0 ∷ 0 ∷ 0 ∷ []
 values_of (Least r words) = r.key ∷ r.value ∷ r.label.0 ∷ r.stamp.0 ∷ 0 ∷ words ∷ []
 values_of Withdrawn = no_values
 values_of (Inserted label stamp words) = 0 ∷ 0 ∷ label.0 ∷ stamp.0 ∷ 0 ∷ words ∷ []

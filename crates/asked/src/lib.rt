@@ -11,10 +11,9 @@ use steps::{Desk, Turn};
 pub fn ask(desk: Desk, request: Request, tree: &mut [u64]) -> Turn
     ensures { Steps desk (Line.Ask request) tree.old tree.new result }
 {
-    if !desk.sized {
+    let Some(card) = desk else {
         return steps::unread_by(desk);
-    }
-    let card = desk.card;
+    };
     let n = steps::used(card.sizes.h, card.sizes.z, tree.len());
     let done = rounds::play(card, request, &mut tree[..n]);
     steps::told_by(done)

@@ -47,11 +47,11 @@ module _ (k : Card) (r : Request) (room : ℕ) (fine : bad_card k ≡ false) (id
   pub request-refused : (first_given (request_table k r) ≡ 0 → ⊥)
       → first_given (begin_table k r room) ≡ first_given (request_table k r)
   unfolding call_table
-  request-refused h = sym (begin-fault (bad_card k) (parts_of k) k.root k.waiting 0 passes r room refl _ refl h)
+  request-refused h = sym (begin-fault (bad_card k) (parts_of k) k.root k.waiting r room passes h refl)
 
   pub room-enough : first_given (request_table k r) ≡ 0 → places_asked k.sizes.h (job_of (parts_of k) r) ≤ room → first_given (begin_table k r room) ≡ 0
   unfolding call_table
-  room-enough e l = begin-room (bad_card k) (parts_of k) k.root k.waiting 0 passes r room refl _ refl e ∙ rw (le-ltb _ _ l)
+  room-enough e l = begin-room (bad_card k) (parts_of k) k.root k.waiting r room passes (sym e) ∙ rw (le-ltb _ _ l)
 
 -- a begin that is not refused
 pub record Accepted (k : Card) (r : Request) (room : ℕ) : Type 0 where

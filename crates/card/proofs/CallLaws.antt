@@ -5,6 +5,7 @@ use mathlib.Core.List.{List, ◌∷◌}
 use mathlib.Core.Path.{◌≡◌, refl, ap}
 use native.Mathlib.Omega.{arith}
 use lib.ListN.{take, drop, replicate}
+use Rattle.std.specs.Prelude.{Option, None, Some}
 use Rattle.record.specs.declared.Leaf.{Leaf}
 use Rattle.record.specs.declared.Stamp.{Stamp}
 use Rattle.record.specs.declared.Record.{Record}
@@ -15,8 +16,6 @@ use Rattle.path.specs.declared.sizes.Sizes.{Sizes}
 use Rattle.path.specs.Sizes.{in_range}
 use Rattle.refusal.specs.Refusal.{first_given}
 use Rattle.card.specs.declared.Card.{Card}
-use Rattle.request.specs.declared.Waiting.{Waiting}
-use Rattle.request.specs.declared.Waiting.TheVariants.{Nothing, For}
 use Rattle.request.specs.declared.Request.{Request}
 use Rattle.request.specs.declared.Request.TheVariants.{Insert, Extract, Delete}
 use Rattle.judge.specs.BadParts.{odd_least}
@@ -74,15 +73,15 @@ fresh-good s h =
 
 -- ---- a begin that is not refused, and a withdraw, leave a good card good
 module _ (k : Card) (g : Good k) where
-  pub waiting-good : (w : Waiting) → first_given (waiting_table k w) ≡ 0 → Good (with_waiting k w)
+  pub waiting-good : (w : Option Request) → first_given (waiting_table k w) ≡ 0 → Good (with_waiting k w)
   waiting-good w e = record { parts = g.parts; waiting = e }
 
-  pub withdrawn-good : Good (with_waiting k Nothing)
+  pub withdrawn-good : Good (with_waiting k None)
   unfolding first_given
-  withdrawn-good = waiting-good Nothing refl
+  withdrawn-good = waiting-good None refl
 
-pub begun-good : (k : Card) (r : Request) (room : ℕ) → Accepted k r room → Good (with_waiting k (For r))
-begun-good k r room b = waiting-good k b.card (For r) b.request
+pub begun-good : (k : Card) (r : Request) (room : ℕ) → Accepted k r room → Good (with_waiting k (Some r))
+begun-good k r room b = waiting-good k b.card (Some r) b.request
 
 -- ---- the list depends on the request and the height, for ExtractMin on the root's least label, and on nothing else
 pub same-list :

@@ -1,11 +1,12 @@
 -- What a finish that is not refused at once tells: a good card, a request that waits, words enough. Assumes nothing.
 use Prim.Native.Nat.{ℕ, ◌≤◌, ◌<◌}
-use mathlib.Core.Bool.{true, false, true≢false}
+use mathlib.Core.Bool.{false, true≢false}
 use mathlib.Core.List.{List}
 use mathlib.Core.Path.{◌≡◌, refl, sym, subst, ◌∙◌}
 use native.Mathlib.Omega.{arith}
 use lib.ListN.{length}
 use borrow.Author.Tests.{lt-ltb, le-ltb, ltb-false}
+use Rattle.std.specs.Prelude.{Option, None, Some}
 use Rattle.path.specs.Sizes.{leaves_of}
 use Rattle.path.proofs.SizesLaws.{in-range}
 use Rattle.lists.specs.declared.Listed.{Listed as Counts}
@@ -14,8 +15,6 @@ use Rattle.refusal.specs.Refusal.{first_given}
 use Rattle.refusal.proofs.RefusalLaws.{none-given, Numbered, none, next}
 use Rattle.parts.specs.declared.Parts.{Parts}
 use Rattle.request.specs.declared.Request.{Request}
-use Rattle.request.specs.declared.Waiting.{Waiting}
-use Rattle.request.specs.declared.Waiting.TheVariants.{Nothing, For}
 use Rattle.request.specs.declared.job.Job.{Job}
 use Rattle.request.specs.declared.job.Job.TheVariants.{Path, Pair}
 use Rattle.request.specs.Tables.{waits}
@@ -34,21 +33,21 @@ use Rattle.card.proofs.GoodLaws.{Good, good}
 use Rattle.card.proofs.BeginLaws.{leaves-within}
 
 module _ (k : Card) (room : ℕ) where
-  short-numbered : (w : Waiting) → Numbered (short_rows (parts_of k) w room)
-  short-numbered Nothing = none
-  short-numbered (For r) = next 11 (omega arith) none
+  short-numbered : (w : Option Request) → Numbered (short_rows (parts_of k) w room)
+  short-numbered None = none
+  short-numbered (Some r) = next 11 (omega arith) none
 
   pub entry-numbered : Numbered (entry_table k room)
   unfolding call_table call_rows
   entry-numbered = next 13 (omega arith) (next 3 (omega arith) (short-numbered k.waiting))
 
   -- a good card on which none waits
-  pub none-waits : bad_card k ≡ false → k.waiting ≡ Nothing → first_given (entry_table k room) ≡ 3
+  pub none-waits : bad_card k ≡ false → k.waiting ≡ None → first_given (entry_table k room) ≡ 3
   unfolding call_table call_rows first_given waits
   none-waits fine idle = rw (fine, idle)
 
   -- a good card on which a request waits: only the room decides
-  module _ (r : Request) (fine : bad_card k ≡ false) (busy : k.waiting ≡ For r) where
+  module _ (r : Request) (fine : bad_card k ≡ false) (busy : k.waiting ≡ Some r) where
     pub words-short : room < words_needed k r → first_given (entry_table k room) ≡ 11
     unfolding call_table call_rows first_given waits
     words-short l = rw (fine, busy, lt-ltb _ _ l)
@@ -58,7 +57,7 @@ module _ (k : Card) (room : ℕ) where
     words-enough l = rw (fine, busy, le-ltb _ _ l)
 
   -- some request waits
-  pub some-waits : first_given (entry_table k room) ≡ 0 → k.waiting ≡ Nothing → ⊥
+  pub some-waits : first_given (entry_table k room) ≡ 0 → k.waiting ≡ None → ⊥
   unfolding call_table call_rows waits
   some-waits e idle =
       let a = none-given 13 (bad_card k) _ (omega arith) e in
@@ -70,7 +69,7 @@ module _ (k : Card) (room : ℕ) where
     pub request : first_given (request_table k r) ≡ 0
     pub words : words_needed k r ≤ room
 
-  pub entered : (r : Request) → k.waiting ≡ For r → first_given (entry_table k room) ≡ 0 → Entered r
+  pub entered : (r : Request) → k.waiting ≡ Some r → first_given (entry_table k room) ≡ 0 → Entered r
   unfolding call_table call_rows
   entered r busy e =
       let a = none-given 13 (bad_card k) _ (omega arith) e in
@@ -109,7 +108,7 @@ request-ready k ws r n =
     (subst (λ (m : Counts). fetched_for k.sizes.z m ≤ length ws) (counts-for k.sizes.h (job_of (parts_of k) r) high) n.words) refl
 
 -- told by the number that the checks gave
-module _ (k : Card) (ws : List ℕ) (r : Request) (busy : k.waiting ≡ For r) (n : ℕ) (e : n ≡ first_given (entry_table k (length ws))) (z : n ≡ 0) where
+module _ (k : Card) (ws : List ℕ) (r : Request) (busy : k.waiting ≡ Some r) (n : ℕ) (e : n ≡ first_given (entry_table k (length ws))) (z : n ≡ 0) where
   pub checked-ready : Finishable (parts_of k) (job_of (parts_of k) r) ws
   checked-ready = request-ready k ws r (entered k (length ws) r busy (sym e ∙ z))
 

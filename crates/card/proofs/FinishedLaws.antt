@@ -5,14 +5,14 @@ use mathlib.Core.List.{List, [], ◌∷◌}
 use mathlib.Core.Path.{◌≡◌, refl, sym, ap, subst, ◌∙◌}
 use native.Mathlib.Omega.{arith}
 use lib.ListN.{length}
+use Rattle.std.specs.Prelude.{Option, Some, Result, Ok, Err}
 use Rattle.record.specs.Standing.{same}
 use Rattle.refusal.specs.Refusal.{row, first_given, afterwards}
 use Rattle.refusal.proofs.RefusalLaws.{or-first, or-second, left-before, left-done, first-append}
 use Rattle.request.specs.declared.Request.{Request}
 use Rattle.request.specs.declared.Request.TheVariants.{Insert, Extract, Delete}
-use Rattle.request.specs.declared.Waiting.{Waiting}
-use Rattle.request.specs.declared.Waiting.TheVariants.{For}
 use Rattle.request.specs.Job.{job_of}
+use Rattle.settle.specs.declared.Damaged.{Damaged}
 use Rattle.settle.specs.declared.Settled.{Settled}
 use Rattle.settle.specs.Left.{Left, removal_damaged, words_left}
 use Rattle.settle.specs.Settled.{settled}
@@ -42,14 +42,14 @@ unfolding finished_by
 done-finished k r out l e = rw e
 
 -- where the entry passes, Damaged decides
-at_entry : (k : Card) (ws : List ℕ) (r : Request) → k.waiting ≡ For r → first_given (entry_table k (length ws)) ≡ 0
+at_entry : (k : Card) (ws : List ℕ) (r : Request) → k.waiting ≡ Some r → first_given (entry_table k (length ws)) ≡ 0
     → first_given (finish_table k ws) ≡ first_given (row 12 (damaged_by k r ws) ∷ [])
 at_entry k ws r busy entry = first-append _ (entry-numbered k (length ws)) ∙ or-second _ _ entry ∙ rw busy
 
 -- ---- an answer and the words afterwards are all of a finish: what an ExtractMin takes out follows
 module _ (k : Card) (before after : List ℕ) (d : Done) (call : Answered k (first_given (finish_table k before)) (finished k before) d)
     (words : after ≡ afterwards (first_given (finish_table k before)) (words_for k k.waiting before) before) where
-  module _ (long : length k.root ≡ 64) (busy : k.waiting ≡ For Extract) where
+  module _ (long : length k.root ≡ 64) (busy : k.waiting ≡ Some Extract) where
     abbrev number : ℕ
     number = first_given (finish_table k before)
 
@@ -67,7 +67,7 @@ module _ (k : Card) (before after : List ℕ) (d : Done) (call : Answered k (fir
 
       done : d ≡ finished_by k Extract (left_by k Extract before)
       unfolding or_refused
-      done = call.whole ∙ left-done number _ _ passes ∙ ap (λ (w : Waiting). finished_for k w before) busy
+      done = call.whole ∙ left-done number _ _ passes ∙ ap (λ (w : Option Request). finished_for k w before) busy
 
       card-is : d.card ≡ card_left k (least_taken k before)
       unfolding finished_by
@@ -75,7 +75,7 @@ module _ (k : Card) (before after : List ℕ) (d : Done) (call : Answered k (fir
 
       words_are : after ≡ words_left (least_taken k before) before
       words_are =
-          words ∙ left-done number _ _ passes ∙ ap (λ (w : Waiting). words_for k w before) busy ∙ ap (λ (l : Left). words_left l before) taken
+          words ∙ left-done number _ _ passes ∙ ap (λ (w : Option Request). words_for k w before) busy ∙ ap (λ (l : Left). words_left l before) taken
 
       was-found : (least_taken k before).found ≡ true
       was-found = ap (λ (l : Left). l.found) (sym taken) ∙ extracts-found k before passes long busy
@@ -98,7 +98,7 @@ module _ (k : Card) (ws : List ℕ) where
       finishes k ws ws (refused k number) (rw why (is-refused k number (finished k ws) h)) (rw why (sym (left-before number _ ws h)))
 
   -- the entry passed, so Damaged decides
-  module _ (r : Request) (busy : k.waiting ≡ For r) (entry : first_given (entry_table k (length ws)) ≡ 0) where
+  module _ (r : Request) (busy : k.waiting ≡ Some r) (entry : first_given (entry_table k (length ws)) ≡ 0) where
     gives-12 : damaged_by k r ws ≡ true → first_given (finish_table k ws) ≡ 12
     unfolding first_given
     gives-12 t = at_entry k ws r busy entry ∙ rw t
@@ -117,20 +117,20 @@ module _ (k : Card) (ws : List ℕ) where
         let why = gives_none f in
         finishes k ws (words_left (left_by k r ws) ws) (finished_by k r (left_by k r ws))
         (rw why
-        (subst (λ (w : Waiting). Answered k 0 (finished_for k w ws) (finished_by k r (left_by k r ws))) (sym busy)
+        (subst (λ (w : Option Request). Answered k 0 (finished_for k w ws) (finished_by k r (left_by k r ws))) (sym busy)
         (is-done k 0 (finished_by k r (left_by k r ws)) refl (finished-number k r (left_by k r ws)))))
-        (rw why (ap (λ (w : Waiting). words_for k w ws) (sym busy)))
+        (rw why (ap (λ (w : Option Request). words_for k w ws) (sym busy)))
 
     -- by what the finish of the job hands back
-    module _ (after : List ℕ) (out : Settled) (s : SettlesOn k.root ws after out (parts_of k) (job_of (parts_of k) r)) where
-      pub request-damaged : (done : Done) → out.damaged ≡ true → done ≡ refused k 12 → Finishes k ws after done
+    module _ (after : List ℕ) (out : Result Settled Damaged) (s : SettlesOn k.root ws after out (parts_of k) (job_of (parts_of k) r)) where
+      pub request-damaged : (done : Done) (e : Damaged) → out ≡ Err e → done ≡ refused k 12 → Finishes k ws after done
       unfolding damaged_by
-      request-damaged done t e =
-          let (d, a) = settles-damaged _ _ _ _ _ _ _ _ s t in
-          rw (e, a) (damaged-refused d)
+      request-damaged done e t f =
+          let (d, a) = settles-damaged _ _ _ _ _ _ s e t in
+          rw (f, a) (damaged-refused d)
 
-      pub request-done : (done : Done) → out.damaged ≡ false → done ≡ done_with k r out → Finishes k ws after done
+      pub request-done : (done : Done) (next : Settled) → out ≡ Ok next → done ≡ done_with k r next → Finishes k ws after done
       unfolding damaged_by left_by list_of
-      request-done done f e =
-          let (d, (o, a)) = settles-done _ _ _ _ _ _ _ _ s f in
-          rw (e ∙ done-finished k r out (left_by k r ws) o, a) (done-done d)
+      request-done done next f e =
+          let (d, (o, a)) = settles-done _ _ _ _ _ _ s next f in
+          rw (e ∙ done-finished k r next (left_by k r ws) o, a) (done-done d)

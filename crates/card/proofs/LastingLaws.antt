@@ -7,6 +7,7 @@ use mathlib.Core.Path.{◌≡◌, refl, sym, subst}
 use mathlib.Mathlib.Data.Bool.Basic.{or-eq-false-eq-eq-false-and-eq-false as neither}
 use native.Mathlib.Omega.{arith}
 use lib.ListN.{length}
+use Rattle.std.specs.Prelude.{Option, None, Some}
 use Rattle.record.specs.declared.Record.{Record}
 use Rattle.record.specs.Standing.{same}
 use Rattle.refusal.specs.Refusal.{first_given}
@@ -14,8 +15,6 @@ use Rattle.refusal.proofs.RefusalLaws.{none-given, append-none}
 use Rattle.parts.specs.declared.Parts.{Parts}
 use Rattle.request.specs.declared.Request.{Request}
 use Rattle.request.specs.declared.Request.TheVariants.{Extract}
-use Rattle.request.specs.declared.Waiting.{Waiting}
-use Rattle.request.specs.declared.Waiting.TheVariants.{Nothing, For}
 use Rattle.request.specs.declared.job.Job.{Job}
 use Rattle.request.specs.declared.job.Job.TheVariants.{Path, Pair}
 use Rattle.request.specs.Job.{job_of}
@@ -42,7 +41,7 @@ left-fits p root (Path leaf label stamp) ws e = ((neither (path_bad p root ws le
 left-fits p root (Pair first second new) ws e = ((neither (pair_bad p root ws first second) _).0 e).1
 
 -- ExtractMin's 12 is given exactly where the removal of "the root's least record", in all four numbers, is Damaged
-pub extracts-damaged : (k : Card) (ws : List ℕ) → length k.root ≡ 64 → k.waiting ≡ For Extract → first_given (entry_table k (length ws)) ≡ 0
+pub extracts-damaged : (k : Card) (ws : List ℕ) → length k.root ≡ 64 → k.waiting ≡ Some Extract → first_given (entry_table k (length ws)) ≡ 0
     → damaged_by k Extract ws ≡ removal_damaged (parts_of k) k.root ws k.least.label (same k.least)
 unfolding damaged_by
 extracts-damaged k ws long busy entry =
@@ -54,22 +53,22 @@ module _ (k : Card) (ws : List ℕ) (passes : first_given (finish_table k ws) �
   entry : first_given (entry_table k (length ws)) ≡ 0
   entry = (append-none _ (entry-numbered k (length ws)) passes).0
 
-  damaged-none : (w : Waiting) → k.waiting ≡ w → first_given (damaged_rows k w ws) ≡ 0
-  damaged-none w e = subst (λ (v : Waiting). first_given (damaged_rows k v ws) ≡ 0) e (append-none _ (entry-numbered k (length ws)) passes).1
+  damaged-none : (w : Option Request) → k.waiting ≡ w → first_given (damaged_rows k w ws) ≡ 0
+  damaged-none w e = subst (λ (v : Option Request). first_given (damaged_rows k v ws) ≡ 0) e (append-none _ (entry-numbered k (length ws)) passes).1
 
-  undamaged : (r : Request) → k.waiting ≡ For r → damaged_by k r ws ≡ false
-  undamaged r busy = (none-given 12 _ [] (omega arith) (damaged-none (For r) busy)).0
+  undamaged : (r : Request) → k.waiting ≡ Some r → damaged_by k r ws ≡ false
+  undamaged r busy = (none-given 12 _ [] (omega arith) (damaged-none (Some r) busy)).0
 
   -- by what waited
-  card-lasts : (w : Waiting) → k.waiting ≡ w → bad_card (finished_for k w ws).card ≡ false
+  card-lasts : (w : Option Request) → k.waiting ≡ w → bad_card (finished_for k w ws).card ≡ false
   unfolding bad_card finished_by damaged_by left_by first_given
-  card-lasts Nothing idle = absurd (some-waits k (length ws) entry idle)
-  card-lasts (For r) busy = rw (left-fits (parts_of k) k.root (job_of (parts_of k) r) ws (undamaged r busy))
+  card-lasts None idle = absurd (some-waits k (length ws) entry idle)
+  card-lasts (Some r) busy = rw (left-fits (parts_of k) k.root (job_of (parts_of k) r) ws (undamaged r busy))
 
   pub finish-lasts : bad_card (finished k ws).card ≡ false
   finish-lasts = card-lasts k.waiting refl
 
-  module _ (long : length k.root ≡ 64) (busy : k.waiting ≡ For Extract) where
+  module _ (long : length k.root ≡ 64) (busy : k.waiting ≡ Some Extract) where
     -- "ExtractMin replaces the root's least record .. by the dummy": the record of its label and stamp is that one, all four numbers
     pub extracts-least : left_by k Extract ws ≡ least_taken k ws
     unfolding left_by damaged_by
@@ -102,10 +101,10 @@ pub never-bad : {k : Card} → Reached k → bad_card k ≡ false
 never-bad (start s e) = good-card (fresh_card s) (fresh-good s e)
 never-bad (begin {k} {r = w} {before} {after} {d} r b) =
     handed-back Fine k _ (begun k w) d b.call.whole (never-bad r)
-    (λ none. good-card (with_waiting k (For w)) (begun-good k w (length before) (accepted k w (length before) none)))
+    (λ none. good-card (with_waiting k (Some w)) (begun-good k w (length before) (accepted k w (length before) none)))
 never-bad (finish {k} {before} {after} {d} r f) =
     handed-back Fine k _ (finished k before) d f.call.whole (never-bad r) (finish-lasts k before)
 never-bad (withdraw {k} {d} r a) =
     handed-back Fine k _ (withdrawn k) d a.whole (never-bad r)
-    (λ none. good-card (with_waiting k Nothing) (withdrawn-good k (good k (never-bad r))))
+    (λ none. good-card (with_waiting k None) (withdrawn-good k (good k (never-bad r))))
 never-bad (find_min {k} {d} r a) = handed-back Fine k _ (found_min k) d a.whole (never-bad r) (λ none. never-bad r)

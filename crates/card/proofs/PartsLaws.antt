@@ -2,6 +2,7 @@
 use Prim.Native.Nat.{ℕ}
 use mathlib.Core.List.{List}
 use mathlib.Core.Path.{◌≡◌, sym, subst}
+use Rattle.std.specs.Prelude.{Result}
 use Rattle.record.specs.declared.Record.{Record}
 use Rattle.lists.specs.declared.Listed.{Listed as Counts}
 use Rattle.lists.specs.BucketList.{Names, words_moved}
@@ -11,6 +12,7 @@ use Rattle.request.specs.declared.Request.{Request}
 use Rattle.request.specs.declared.job.Job.{Job}
 use Rattle.request.specs.Job.{job_of}
 use Rattle.listing.specs.Listing.{list_for, Listable}
+use Rattle.settle.specs.declared.Damaged.{Damaged}
 use Rattle.settle.specs.declared.Settled.{Settled}
 use Rattle.settle.specs.Settled.{Settles}
 use Rattle.finishes.specs.Finishes.{left_for, damaged_for, Finishable}
@@ -22,9 +24,9 @@ use Rattle.card.specs.BadCard.{bad_card}
 use Rattle.card.specs.Calls.{call_table}
 
 -- what the finish of a job hands back
-abbrev pub SettlesOn : List Record → List ℕ → List ℕ → Settled → Parts → Job → Type 0
+abbrev pub SettlesOn : List Record → List ℕ → List ℕ → Result Settled Damaged → Parts → Job → Type 0
 SettlesOn root ws after out p j =
-    Settles p root (damaged_for p root j ws) (left_for p root j ws) (words_moved p.sizes.z (list_for p.sizes.h j)) ws after out
+    Settles (damaged_for p root j ws) (left_for p root j ws) (words_moved p.sizes.z (list_for p.sizes.h j)) ws after out
 
 module _ (k : Card) (p : Parts) (e : p ≡ parts_of k) where
   pub why-told : (call : Call) (n : ℕ) → n ≡ first_given (call_rows (bad_with p k.root k.waiting) p k.root k.waiting call)
@@ -51,6 +53,6 @@ module _ (k : Card) (p : Parts) (e : p ≡ parts_of k) where
     pub finishable-told : (ws : List ℕ) → Finishable (parts_of k) (job_of (parts_of k) r) ws → Finishable p j ws
     finishable-told ws = of_parts (λ q i. Finishable q i ws)
 
-    pub settled-told : (ws after : List ℕ) (out : Settled) → SettlesOn k.root ws after out p j
+    pub settled-told : (ws after : List ℕ) (out : Result Settled Damaged) → SettlesOn k.root ws after out p j
         → SettlesOn k.root ws after out (parts_of k) (job_of (parts_of k) r)
     settled-told ws after out = of-card (SettlesOn k.root ws after out)

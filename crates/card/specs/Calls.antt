@@ -1,5 +1,5 @@
 -- What each call answers: document 01, "A request, step by step". Assumes nothing.
-use Rattle.std.specs.Prelude.{ℕ, not, List, [], ◌∷◌, ◌≡◌, length, replicate}
+use Rattle.std.specs.Prelude.{ℕ, not, List, [], ◌∷◌, ◌≡◌, length, replicate, Option, None, Some}
 use Rattle.record.specs.declared.Record.{Record}
 use Rattle.record.specs.Standing.{dummy}
 use Rattle.record.specs.Words.{record4}
@@ -9,8 +9,6 @@ use Rattle.path.specs.Sizes.{in_range}
 use Rattle.lists.specs.BucketList.{BucketList, no_buckets, counts, laid, words_moved}
 use Rattle.refusal.specs.Refusal.{Refusal, row, first_given, afterwards}
 use Rattle.request.specs.declared.Request.{Request}
-use Rattle.request.specs.declared.Waiting.{Waiting}
-use Rattle.request.specs.declared.Waiting.TheVariants.{Nothing, For}
 use Rattle.request.specs.Job.{job_of}
 use Rattle.answers.specs.declared.Answer.TheVariants.{Started, Listed, Least, Withdrawn}
 use Rattle.listing.specs.Listing.{list_for}
@@ -24,7 +22,7 @@ use Rattle.card.specs.BadCard.{bad_card}
 use Rattle.card.specs.Answers.{Answered}
 
 -- a card with another waiting request, all else as it was
-abbrev pub with_waiting : Card → Waiting → Card
+abbrev pub with_waiting : Card → Option Request → Card
 with_waiting k w = card_of (parts_of k) k.root w
 
 -- when a call is refused, but for Damaged: the rows stand in checks/specs/Checks.antt
@@ -34,7 +32,7 @@ call_table k call = call_rows (bad_card k) (parts_of k) k.root k.waiting call
 -- ---- start
 -- nothing finished, nothing live, nothing waiting; all dummies
 abbrev pub fresh_card : Sizes → Card
-fresh_card s = record { sizes = s; t = 0; c = 0; root = replicate 64 dummy; least = dummy; waiting = Nothing }
+fresh_card s = record { sizes = s; t = 0; c = 0; root = replicate 64 dummy; least = dummy; waiting = None }
 
 -- what a refused start hands back, for "every other field 0": 0 in every field; its height is 0, so it is a BadCard
 abbrev pub zero_record : Record
@@ -48,7 +46,7 @@ zero_card =
       c = 0;
       root = replicate 64 zero_record;
       least = zero_record;
-      waiting = Nothing;
+      waiting = None;
     }
 
 -- "Starting a card gives 1 only."
@@ -69,7 +67,7 @@ begin_table k r room = call_table k (Begin r room)
 
 -- "It changes nothing on the card but the waiting request", and answers "how many are whole and how many are least-record only"
 abbrev pub begun_with : Card → Request → Counts → Done
-begun_with k r n = record { card = with_waiting k (For r); answer = Listed n.whole n.least }
+begun_with k r n = record { card = with_waiting k (Some r); answer = Listed n }
 
 abbrev pub begun : Card → Request → Done
 begun k r = begun_with k r (counts (list_of k r))
@@ -94,4 +92,4 @@ withdraw_table k = call_table k Withdraw
 
 -- "drops the waiting request and changes nothing else"
 abbrev pub withdrawn : Card → Done
-withdrawn k = record { card = with_waiting k Nothing; answer = Withdrawn }
+withdrawn k = record { card = with_waiting k None; answer = Withdrawn }

@@ -1,13 +1,11 @@
 -- Finish: document 01, "A request, step by step". What the work leaves and when it is Damaged stand in
 -- finishes/specs/Finishes.antt; here they are taken of the card and the request that waits on it. Assumes nothing.
-use Rattle.std.specs.Prelude.{ℕ, Bool, true, cond, List, [], ◌∷◌, ◌++◌, ◌≡◌, length}
+use Rattle.std.specs.Prelude.{ℕ, Bool, true, cond, List, [], ◌∷◌, ◌++◌, ◌≡◌, length, Option, None, Some}
 use Rattle.record.specs.Standing.{same}
 use Rattle.lists.specs.BucketList.{words_moved}
 use Rattle.refusal.specs.Refusal.{Refusal, row, first_given, afterwards}
 use Rattle.request.specs.declared.Request.{Request}
 use Rattle.request.specs.declared.Request.TheVariants.{Extract}
-use Rattle.request.specs.declared.Waiting.{Waiting}
-use Rattle.request.specs.declared.Waiting.TheVariants.{Nothing, For}
 use Rattle.request.specs.Job.{job_of}
 use Rattle.listing.specs.Listing.{words_asked}
 use Rattle.settle.specs.Left.{Left, removal, removal_damaged, words_left, parts_after}
@@ -35,7 +33,7 @@ module _ (k : Card) where
 
   -- "Every finished Insert, ExtractMin and Delete adds 1 to t"; none waits on the card that comes out
   abbrev pub card_left : Left → Card
-  card_left l = card_of (parts_after (parts_of k) l.c l.least) l.root Nothing
+  card_left l = card_of (parts_after (parts_of k) l.c l.least) l.root None
 
   -- "The answer carries the words moved"
   abbrev pub moved_for : Request → ℕ
@@ -48,7 +46,7 @@ module _ (k : Card) where
   abbrev pub done_with : Request → Settled → Done
   done_with r out =
       record {
-        card = card_of (parts_after (parts_of k) out.c out.least) out.root Nothing;
+        card = card_of (parts_after (parts_of k) out.c out.least) out.root None;
         answer = answer_to (parts_of k) r out.found out.moved;
       }
 
@@ -57,17 +55,17 @@ module _ (k : Card) where
   entry_table room = call_table k (Finish room)
 
   -- row 12, what comes of it and the words afterwards, by what waits. Where nothing does, 3 is given, and nothing is worked on
-  abbrev pub damaged_rows : Waiting → List ℕ → List Refusal
-  damaged_rows Nothing ws = []
-  damaged_rows (For r) ws = row 12 (damaged_by r ws) ∷ []
+  abbrev pub damaged_rows : Option Request → List ℕ → List Refusal
+  damaged_rows None ws = []
+  damaged_rows (Some r) ws = row 12 (damaged_by r ws) ∷ []
 
-  abbrev pub finished_for : Waiting → List ℕ → Done
-  finished_for Nothing ws = refused k 3
-  finished_for (For r) ws = finished_by r (left_by r ws)
+  abbrev pub finished_for : Option Request → List ℕ → Done
+  finished_for None ws = refused k 3
+  finished_for (Some r) ws = finished_by r (left_by r ws)
 
-  abbrev pub words_for : Waiting → List ℕ → List ℕ
-  words_for Nothing ws = ws
-  words_for (For r) ws = words_left (left_by r ws) ws
+  abbrev pub words_for : Option Request → List ℕ → List ℕ
+  words_for None ws = ws
+  words_for (Some r) ws = words_left (left_by r ws) ws
 
   -- "finish checks 13, 3, 11, 12 only"
   abbrev pub finish_table : List ℕ → List Refusal
@@ -95,4 +93,4 @@ pub record TakesLeast (k : Card) (before after : List ℕ) (answer : Done) : Typ
 pub record Finishes (k : Card) (before after : List ℕ) (answer : Done) : Type 0 where
   pub call : Answered k (first_given (finish_table k before)) (finished k before) answer
   pub words : after ≡ afterwards (first_given (finish_table k before)) (words_for k k.waiting before) before
-  pub least : length k.root ≡ 64 → k.waiting ≡ For Extract → TakesLeast k before after answer
+  pub least : length k.root ≡ 64 → k.waiting ≡ Some Extract → TakesLeast k before after answer

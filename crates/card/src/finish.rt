@@ -5,8 +5,8 @@ ghost use Rattle.card.specs.Finish.{done_with, Finishes};
 
 use crate::{Card, Done};
 use checks::Call;
-use refusal::{DAMAGED, IDLE};
-use request::{Request, Waiting, job_of};
+use refusal::Reason;
+use request::{Request, job_of};
 use settle::Settled;
 
 impl Card {
@@ -15,44 +15,41 @@ impl Card {
         requires { self.t ≤ 4294967295 }
         ensures { result ≡ done_with self request out }
     {
-        let answer = answers::answer_to(self.parts(), request, out.found, out.moved);
-        let waiting = Waiting::Nothing;
-        let root = out.root;
-        let least = out.least;
+        let Settled {
+            root,
+            least,
+            c,
+            found,
+            moved,
+        } = out;
+        let answer = answers::answer_to(self.parts(), request, found, moved);
         let card = Card {
             t: self.t + 1,
-            c: out.c,
-            root: root,
-            least: least,
-            waiting: waiting,
+            c,
+            root,
+            least,
+            waiting: None,
             ..self
         };
-        Done {
-            card: card,
-            answer: answer,
-        }
+        Done { card, answer }
     }
 
     pub fn finish(self, words: &mut [u64]) -> Done
         ensures { Finishes self words.old words.new result }
     {
         let room = words.len();
-        let call = Call::Finish { room: room };
-        let number = self.why(call);
-        if number != 0 {
-            return self.refuse(number);
+        if let Err(reason) = self.why(Call::Finish { room }) {
+            return self.refuse(reason);
         }
-        let waiting = self.waiting;
         // nothing waits: `why` has given 3 already
-        let Waiting::For(request) = waiting else {
-            return self.refuse(IDLE);
+        let Some(request) = self.waiting else {
+            return self.refuse(Reason::Idle);
         };
         let root = self.root;
         let parts = self.parts();
-        let out = finishes::settle_job(words, root, parts, job_of(parts, request));
-        if out.damaged {
-            return self.refuse(DAMAGED);
-        }
+        let Ok(out) = finishes::settle_job(words, root, parts, job_of(parts, request)) else {
+            return self.refuse(Reason::Damaged);
+        };
         self.done_with(request, out)
     }
 }

@@ -11,7 +11,7 @@ mod finish;
 use answers::Answer;
 use path::{ROOT_PLACES, Sizes};
 use record::Record;
-use request::Waiting;
+use request::Request;
 
 #[derive(Clone, Copy)]
 pub struct Card {
@@ -20,7 +20,7 @@ pub struct Card {
     pub c: u64,
     pub root: [Record; ROOT_PLACES],
     pub least: Record,
-    pub waiting: Waiting,
+    pub waiting: Option<Request>,
 }
 
 // What a call hands back.

@@ -1,18 +1,16 @@
 // Cards to call: started ones, and forged ones, which differ from a good card in the numbers that are given.
 ghost use Rattle.std.specs.Prelude.{◌<◌, ◌≤◌};
 
-use crate::requests;
 use card::Card;
 use path::Sizes;
 use record::{Leaf, Record, Stamp};
-use request::{Request, Waiting};
+use request::Request;
 
 // 2^64 - 1, the greatest number that a field can hold.
 pub(crate) const TOP: u64 = 18446744073709551615;
 
 pub(crate) fn started(h: u64, z: u64, r: u64, t: u64) -> Card {
-    let done = Card::start(h, z, r, t);
-    done.card
+    Card::start(h, z, r, t).card
 }
 
 // N = 4, two root slots, T = 16; nothing finished.
@@ -30,25 +28,17 @@ pub(crate) fn large(n: usize) -> Card
         let k = i as u64;
         root[i] = Record::proper(k, 0, Leaf(k), Stamp(k));
     }
-    let filled = Card { root: root, ..card };
+    let filled = Card { root, ..card };
     least(counts(filled, 64, 64), 0, 0, 0, 0)
 }
 
 pub(crate) fn sized(card: Card, h: u64, z: u64, r: u64, t: u64) -> Card {
-    let sizes = Sizes {
-        h: h,
-        z: z,
-        r: r,
-        t: t,
-    };
-    Card {
-        sizes: sizes,
-        ..card
-    }
+    let sizes = Sizes { h, z, r, t };
+    Card { sizes, ..card }
 }
 
 pub(crate) fn counts(card: Card, t: u64, c: u64) -> Card {
-    Card { t: t, c: c, ..card }
+    Card { t, c, ..card }
 }
 
 pub(crate) fn slot(card: Card, i: usize, key: u64, value: u64, label: u64, stamp: u64) -> Card
@@ -56,7 +46,7 @@ pub(crate) fn slot(card: Card, i: usize, key: u64, value: u64, label: u64, stamp
 {
     let mut root = card.root;
     root[i] = Record::proper(key, value, Leaf(label), Stamp(stamp));
-    Card { root: root, ..card }
+    Card { root, ..card }
 }
 
 pub(crate) fn least(card: Card, key: u64, value: u64, label: u64, stamp: u64) -> Card {
@@ -67,23 +57,9 @@ pub(crate) fn least(card: Card, key: u64, value: u64, label: u64, stamp: u64) ->
     }
 }
 
-fn waiting(card: Card, request: Request) -> Card {
-    let waiting = Waiting::For(request);
+pub(crate) fn waiting(card: Card, request: Request) -> Card {
     Card {
-        waiting: waiting,
+        waiting: Some(request),
         ..card
     }
-}
-
-pub(crate) fn inserting(card: Card, key: u64, label: u64, first: u64, second: u64) -> Card {
-    waiting(card, requests::insert(key, label, first, second))
-}
-
-pub(crate) fn extracting(card: Card) -> Card {
-    let request = Request::Extract;
-    waiting(card, request)
-}
-
-pub(crate) fn deleting(card: Card, label: u64, stamp: u64) -> Card {
-    waiting(card, requests::delete(label, stamp))
 }

@@ -4,6 +4,7 @@ ghost use Rattle.std.specs.Prelude.{◌<◌};
 
 use crate::named::{HELD, Like, card};
 use crate::{calls, cards};
+use request::Request;
 use std::io;
 
 pub(crate) fn each(rt: &(impl Print + Input), like: Like) -> io::Result<()> {
@@ -42,26 +43,6 @@ pub(crate) fn least(
     calls::each(rt, cards::least(card(like), key, value, label, stamp))
 }
 
-pub(crate) fn inserting(
-    rt: &(impl Print + Input),
-    like: Like,
-    key: u64,
-    label: u64,
-    first: u64,
-    second: u64,
-) -> io::Result<()> {
-    calls::each(rt, cards::inserting(card(like), key, label, first, second))
-}
-
-pub(crate) fn extracting(rt: &(impl Print + Input), like: Like) -> io::Result<()> {
-    calls::each(rt, cards::extracting(card(like)))
-}
-
-pub(crate) fn deleting(
-    rt: &(impl Print + Input),
-    like: Like,
-    label: u64,
-    stamp: u64,
-) -> io::Result<()> {
-    calls::each(rt, cards::deleting(card(like), label, stamp))
+pub(crate) fn waiting(rt: &(impl Print + Input), like: Like, request: Request) -> io::Result<()> {
+    calls::each(rt, cards::waiting(card(like), request))
 }

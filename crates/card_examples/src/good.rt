@@ -1,8 +1,10 @@
 // Cards that just pass: what BadCard must not refuse.
 use crate::cards::TOP;
-use crate::forged::{counts, deleting, each, extracting, inserting, least, slot};
+use crate::forged::{counts, each, least, slot, waiting};
 use crate::named::{BARE, CROWDED, EMPTIED, FRESH, FULL, HELD, SPENT};
+use crate::requests::{delete, insert};
 use crate::{calls, cards, named};
+use request::Request;
 use std::io;
 
 fn good_counts(rt: &(impl Print + Input)) -> io::Result<()> {
@@ -53,19 +55,19 @@ fn good_least(rt: &(impl Print + Input)) -> io::Result<()> {
 
 fn good_waiting(rt: &(impl Print + Input)) -> io::Result<()> {
     // Insert waits
-    inserting(rt, HELD, 6, 1, 1, 2)?;
+    waiting(rt, HELD, insert(6, 1, 1, 2))?;
     // ExtractMin waits
-    extracting(rt, HELD)?;
+    waiting(rt, HELD, Request::Extract)?;
     // Delete waits
-    deleting(rt, HELD, 0, 1)?;
+    waiting(rt, HELD, delete(0, 1))?;
     // Insert waits, c = 0
-    inserting(rt, FRESH, 6, 1, 1, 2)?;
+    waiting(rt, FRESH, insert(6, 1, 1, 2))?;
     // Delete waits, c = 0
-    deleting(rt, EMPTIED, 0, 1)?;
+    waiting(rt, EMPTIED, delete(0, 1))?;
     // ExtractMin waits, c = N
-    extracting(rt, FULL)?;
+    waiting(rt, FULL, Request::Extract)?;
     // ExtractMin waits, root full
-    extracting(rt, CROWDED)
+    waiting(rt, CROWDED, Request::Extract)
 }
 
 pub(crate) fn good(rt: &(impl Print + Input)) -> io::Result<()> {

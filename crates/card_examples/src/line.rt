@@ -1,4 +1,4 @@
-// A line of the table: the name of its case, then its numbers. The names are read from the input, in the order of the cases:
+// The name of a case, at the head of its line. The names are read from the input, in the order of the cases:
 // a text in the code costs the check far more than the call that it names.
 use std::io;
 use std::io::Read;
@@ -7,6 +7,7 @@ use std::io::Read;
 const NAME_MOST: u64 = 100;
 
 // One byte of the name, unless it is the line end before it; false after the colon, and where the input ends.
+// Kept: whether the name goes on is all there is to answer.
 fn copy_byte(rt: &impl Print, input: &mut impl Read) -> io::Result<bool> {
     let mut byte = [0u8; 1];
     if input.read(&mut byte)? == 0 {
@@ -28,16 +29,4 @@ pub(crate) fn name(rt: &(impl Print + Input)) -> io::Result<()> {
         }
     }
     Ok(())
-}
-
-pub(crate) fn text(rt: &impl Print, bytes: &[u8]) -> io::Result<()> {
-    rt.write_all(bytes)
-}
-
-pub(crate) fn number(rt: &impl Print, n: u64) -> io::Result<()> {
-    print!(rt; " {n}")
-}
-
-pub(crate) fn end(rt: &impl Print) -> io::Result<()> {
-    rt.write_all(b"\n")
 }

@@ -3,21 +3,20 @@ ghost use Rattle.std.specs.Prelude.{◌≤◌};
 
 use crate::cards::TOP;
 use crate::named::{BUSY, CROWDED, EMPTIED, FRESH, FULL, HELD, SPENT};
-use crate::tries::{
-    delete, delete_in, delete_short, extract, extract_in, extract_short, insert, insert_in,
-    insert_short, min, withdraw,
-};
+use crate::requests::{delete, insert};
+use crate::tries::{begin, begin_in, min, short, withdraw};
 use crate::{calls, cards, named};
 use record::DUMMY_KEY;
+use request::Request;
 use std::io;
 
 fn busy_and_idle(rt: &(impl Print + Input)) -> io::Result<()> {
     // 2, Insert
-    insert(rt, BUSY, 6, 1, 1, 2)?;
+    begin(rt, BUSY, insert(6, 1, 1, 2))?;
     // 2, ExtractMin
-    extract(rt, BUSY)?;
+    begin(rt, BUSY, Request::Extract)?;
     // 2, Delete
-    delete(rt, BUSY, 0, 1)?;
+    begin(rt, BUSY, delete(0, 1))?;
     // 2, FindMin
     min(rt, BUSY)?;
     // 3, withdraw
@@ -27,42 +26,42 @@ fn busy_and_idle(rt: &(impl Print + Input)) -> io::Result<()> {
 // FindMin is not refused by Spent.
 fn spent(rt: &(impl Print + Input)) -> io::Result<()> {
     // 4, Insert
-    insert(rt, SPENT, 6, 1, 1, 2)?;
+    begin(rt, SPENT, insert(6, 1, 1, 2))?;
     // 4, ExtractMin
-    extract(rt, SPENT)?;
+    begin(rt, SPENT, Request::Extract)?;
     // 4, Delete
-    delete(rt, SPENT, 0, 1)?;
+    begin(rt, SPENT, delete(0, 1))?;
     // t = T, FindMin
     min(rt, SPENT)
 }
 
 fn fields_of_insert(rt: &(impl Print + Input)) -> io::Result<()> {
     // 5, key 2^64 - 1
-    insert(rt, HELD, DUMMY_KEY, 1, 1, 2)?;
+    begin(rt, HELD, insert(DUMMY_KEY, 1, 1, 2))?;
     // key 2^64 - 2
-    insert(rt, HELD, TOP - 1, 1, 1, 2)?;
+    begin(rt, HELD, insert(TOP - 1, 1, 1, 2))?;
     // 6, label N
-    insert(rt, HELD, 6, 4, 1, 2)?;
+    begin(rt, HELD, insert(6, 4, 1, 2))?;
     // 6, label 2^64 - 1
-    insert(rt, HELD, 6, TOP, 1, 2)?;
+    begin(rt, HELD, insert(6, TOP, 1, 2))?;
     // 6, first leaf N/2
-    insert(rt, HELD, 6, 1, 2, 2)?;
+    begin(rt, HELD, insert(6, 1, 2, 2))?;
     // 6, second leaf N/2 - 1
-    insert(rt, HELD, 6, 1, 1, 1)?;
+    begin(rt, HELD, insert(6, 1, 1, 1))?;
     // 6, second leaf N
-    insert(rt, HELD, 6, 1, 1, 4)?;
+    begin(rt, HELD, insert(6, 1, 1, 4))?;
     // 6, leaves exchanged
-    insert(rt, HELD, 6, 1, 2, 1)?;
+    begin(rt, HELD, insert(6, 1, 2, 1))?;
     // label 3, leaves 1 and 3
-    insert(rt, HELD, 6, 3, 1, 3)?;
+    begin(rt, HELD, insert(6, 3, 1, 3))?;
     // label 0, leaves 0 and 2
-    insert(rt, HELD, 6, 0, 0, 2)
+    begin(rt, HELD, insert(6, 0, 0, 2))
 }
 
 fn low(rt: &(impl Print + Input), label: u64, first: u64, second: u64) -> io::Result<()> {
     let mut list = [99u64; 12];
     let card = cards::started(1, 1, 1, 2);
-    calls::insert(rt, card, 6, label, first, second, &mut list)?;
+    calls::begin(rt, card, insert(6, label, first, second), &mut list)?;
     Ok(())
 }
 
@@ -81,28 +80,28 @@ fn leaves_of_height_1(rt: &(impl Print + Input)) -> io::Result<()> {
 
 fn fields_of_delete(rt: &(impl Print + Input)) -> io::Result<()> {
     // 6, Delete, label N
-    delete(rt, HELD, 4, 1)?;
+    begin(rt, HELD, delete(4, 1))?;
     // Delete, label N - 1
-    delete(rt, HELD, 3, 1)?;
+    begin(rt, HELD, delete(3, 1))?;
     // 7, stamp t
-    delete(rt, HELD, 0, 5)?;
+    begin(rt, HELD, delete(0, 5))?;
     // 7, stamp 2^64 - 1
-    delete(rt, HELD, 0, TOP)?;
+    begin(rt, HELD, delete(0, TOP))?;
     // 7, t = 0
-    delete(rt, FRESH, 0, 0)?;
+    begin(rt, FRESH, delete(0, 0))?;
     // stamp t - 1
-    delete(rt, HELD, 0, 4)
+    begin(rt, HELD, delete(0, 4))
 }
 
 fn live_events(rt: &(impl Print + Input)) -> io::Result<()> {
     // 8, FindMin
     min(rt, FRESH)?;
     // 8, ExtractMin
-    extract(rt, FRESH)?;
+    begin(rt, FRESH, Request::Extract)?;
     // c = 0, Delete
-    delete(rt, EMPTIED, 1, 4)?;
+    begin(rt, EMPTIED, delete(1, 4))?;
     // 9, c = N
-    insert(rt, FULL, 6, 1, 1, 2)
+    begin(rt, FULL, insert(6, 1, 1, 2))
 }
 
 // With t and c as given, and R root slots of which slot 0 is real.
@@ -110,7 +109,7 @@ fn counted(rt: &(impl Print + Input), r: u64, t: u64, c: u64) -> io::Result<()> 
     let mut list = [99u64; 12];
     let card = cards::counts(named::card(HELD), t, c);
     let sized = cards::sized(card, 2, 1, r, 16);
-    calls::insert(rt, sized, 6, 1, 1, 2, &mut list)?;
+    calls::begin(rt, sized, insert(6, 1, 1, 2), &mut list)?;
     Ok(())
 }
 
@@ -119,14 +118,14 @@ fn large(rt: &(impl Print + Input), n: usize) -> io::Result<()>
     requires { n ≤ 64 }
 {
     let mut list = [99u64; 12];
-    calls::insert(rt, cards::large(n), 6, 1, 1, 64, &mut list)?;
+    calls::begin(rt, cards::large(n), insert(6, 1, 1, 64), &mut list)?;
     Ok(())
 }
 
 // "Every root slot real" means the R slots. Height 7 asks for more than twelve places.
 fn overflow(rt: &(impl Print + Input)) -> io::Result<()> {
     // 10, R = 2, both real
-    insert(rt, CROWDED, 6, 1, 1, 2)?;
+    begin(rt, CROWDED, insert(6, 1, 1, 2))?;
     // 10, R = 1, one real
     counted(rt, 1, 5, 2)?;
     // 10, R = 64, all real
@@ -148,43 +147,23 @@ fn near_the_counts(rt: &(impl Print + Input)) -> io::Result<()> {
 }
 
 // Insert's list at height 2 has six numbers, the others' four.
-fn insert_0(rt: &(impl Print + Input)) -> io::Result<()> {
-    let mut list = [99u64; 0];
-    // 11, Insert, 0 places
-    insert_in(rt, HELD, 6, 1, 1, 2, &mut list)
-}
-
-fn insert_6(rt: &(impl Print + Input)) -> io::Result<()> {
-    let mut list = [99u64; 6];
-    // Insert, 6 places
-    insert_in(rt, HELD, 6, 1, 1, 2, &mut list)
-}
-
-fn insert_7(rt: &(impl Print + Input)) -> io::Result<()> {
-    let mut list = [99u64; 7];
-    // Insert, 7 places
-    insert_in(rt, HELD, 6, 1, 1, 2, &mut list)
-}
-
-fn path_4(rt: &(impl Print + Input)) -> io::Result<()> {
-    let mut list = [99u64; 4];
-    // ExtractMin, 4 places
-    extract_in(rt, HELD, &mut list)?;
-    // Delete, 4 places
-    delete_in(rt, HELD, 2, 0, &mut list)
-}
-
 fn rooms(rt: &(impl Print + Input)) -> io::Result<()> {
-    insert_0(rt)?;
+    // 11, Insert, 0 places
+    begin_in(rt, HELD, insert(6, 1, 1, 2), &mut [])?;
     // 11, Insert, 5 places
-    insert_short(rt, HELD, 6, 1, 1, 2)?;
-    insert_6(rt)?;
-    insert_7(rt)?;
+    short(rt, HELD, insert(6, 1, 1, 2))?;
+    // Insert, 6 places
+    begin_in(rt, HELD, insert(6, 1, 1, 2), &mut [99; 6])?;
+    // Insert, 7 places
+    begin_in(rt, HELD, insert(6, 1, 1, 2), &mut [99; 7])?;
     // 11, ExtractMin, 3 places
-    extract_short(rt, HELD)?;
+    short(rt, HELD, Request::Extract)?;
     // 11, Delete, 3 places
-    delete_short(rt, HELD, 2, 0)?;
-    path_4(rt)
+    short(rt, HELD, delete(2, 0))?;
+    // ExtractMin, 4 places
+    begin_in(rt, HELD, Request::Extract, &mut [99; 4])?;
+    // Delete, 4 places
+    begin_in(rt, HELD, delete(2, 0), &mut [99; 4])
 }
 
 pub(crate) fn refused(rt: &(impl Print + Input)) -> io::Result<()> {

@@ -4,7 +4,7 @@ use request::Request;
 
 pub(crate) fn insert(key: u64, label: u64, first: u64, second: u64) -> Request {
     Request::Insert {
-        key: key,
+        key,
         value: 60,
         label: Leaf(label),
         first: Leaf(first),

@@ -5,15 +5,9 @@ use card::Card;
 use std::io;
 
 fn start(rt: &impl Print, h: u64, z: u64, r: u64, t: u64) -> io::Result<()> {
-    let done = Card::start(h, z, r, t);
-    line::text(rt, b"start")?;
-    line::number(rt, h)?;
-    line::number(rt, z)?;
-    line::number(rt, r)?;
-    line::number(rt, t)?;
-    line::text(rt, b":")?;
-    show::answer(rt, done)?;
-    line::end(rt)
+    print!(rt; "start {h} {z} {r} {t}:")?;
+    show::answer(rt, Card::start(h, z, r, t).answer)?;
+    println!(rt; "")
 }
 
 fn within(rt: &impl Print) -> io::Result<()> {
@@ -43,7 +37,6 @@ fn handed_back(rt: &(impl Print + Input), t: u64) -> io::Result<()> {
     let card = cards::started(2, 1, 2, t);
     line::name(rt)?;
     show::card(rt, card)?;
-    line::end(rt)?;
     calls::each(rt, card)
 }
 
@@ -51,11 +44,7 @@ fn handed_back(rt: &(impl Print + Input), t: u64) -> io::Result<()> {
 pub(crate) fn starts(rt: &(impl Print + Input)) -> io::Result<()> {
     within(rt)?;
     outside(rt)?;
-    line::text(
-        rt,
-        b"Of each card: Insert, ExtractMin, Delete, FindMin, withdraw.",
-    )?;
-    line::end(rt)?;
+    println!(rt; "Of each card: Insert, ExtractMin, Delete, FindMin, withdraw.")?;
     handed_back(rt, 16)?;
     handed_back(rt, 3)
 }

@@ -2,66 +2,29 @@
 // places left over, where no other list is lent.
 use crate::calls;
 use crate::named::{Like, card};
+use request::Request;
 use std::io;
 
-pub(crate) fn insert(
-    rt: &(impl Print + Input),
-    like: Like,
-    key: u64,
-    label: u64,
-    first: u64,
-    second: u64,
-) -> io::Result<()> {
-    let mut list = [99u64; 12];
-    insert_in(rt, like, key, label, first, second, &mut list)
+pub(crate) fn begin(rt: &(impl Print + Input), like: Like, request: Request) -> io::Result<()> {
+    begin_in(rt, like, request, &mut [99; 12])
 }
 
-pub(crate) fn insert_in(
+pub(crate) fn begin_in(
     rt: &(impl Print + Input),
     like: Like,
-    key: u64,
-    label: u64,
-    first: u64,
-    second: u64,
+    request: Request,
     list: &mut [u64],
 ) -> io::Result<()> {
-    calls::insert(rt, card(like), key, label, first, second, list)?;
+    calls::begin(rt, card(like), request, list)?;
     Ok(())
 }
 
-pub(crate) fn extract(rt: &(impl Print + Input), like: Like) -> io::Result<()> {
-    let mut list = [99u64; 12];
-    extract_in(rt, like, &mut list)
-}
-
-pub(crate) fn extract_in(
-    rt: &(impl Print + Input),
-    like: Like,
-    list: &mut [u64],
-) -> io::Result<()> {
-    calls::extract(rt, card(like), list)?;
-    Ok(())
-}
-
-pub(crate) fn delete(
-    rt: &(impl Print + Input),
-    like: Like,
-    label: u64,
-    stamp: u64,
-) -> io::Result<()> {
-    let mut list = [99u64; 12];
-    delete_in(rt, like, label, stamp, &mut list)
-}
-
-pub(crate) fn delete_in(
-    rt: &(impl Print + Input),
-    like: Like,
-    label: u64,
-    stamp: u64,
-    list: &mut [u64],
-) -> io::Result<()> {
-    calls::delete(rt, card(like), label, stamp, list)?;
-    Ok(())
+// With a list one place too short at height 2.
+pub(crate) fn short(rt: &(impl Print + Input), like: Like, request: Request) -> io::Result<()> {
+    match request {
+        Request::Insert { .. } => begin_in(rt, like, request, &mut [99; 5]),
+        Request::Extract | Request::Delete { .. } => begin_in(rt, like, request, &mut [99; 3]),
+    }
 }
 
 pub(crate) fn min(rt: &(impl Print + Input), like: Like) -> io::Result<()> {
@@ -72,32 +35,4 @@ pub(crate) fn min(rt: &(impl Print + Input), like: Like) -> io::Result<()> {
 pub(crate) fn withdraw(rt: &(impl Print + Input), like: Like) -> io::Result<()> {
     calls::withdraw(rt, card(like))?;
     Ok(())
-}
-
-// With lists one place too short at height 2.
-pub(crate) fn insert_short(
-    rt: &(impl Print + Input),
-    like: Like,
-    key: u64,
-    label: u64,
-    first: u64,
-    second: u64,
-) -> io::Result<()> {
-    let mut list = [99u64; 5];
-    insert_in(rt, like, key, label, first, second, &mut list)
-}
-
-pub(crate) fn extract_short(rt: &(impl Print + Input), like: Like) -> io::Result<()> {
-    let mut list = [99u64; 3];
-    extract_in(rt, like, &mut list)
-}
-
-pub(crate) fn delete_short(
-    rt: &(impl Print + Input),
-    like: Like,
-    label: u64,
-    stamp: u64,
-) -> io::Result<()> {
-    let mut list = [99u64; 3];
-    delete_in(rt, like, label, stamp, &mut list)
 }

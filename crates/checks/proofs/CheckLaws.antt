@@ -7,6 +7,7 @@ use mathlib.Mathlib.Data.Bool.Basic.{or-eq-false-eq-eq-false-and-eq-false as nei
 use native.Mathlib.Omega.{arith}
 use lib.Dec.{ltb, eqb}
 use lib.ListN.{length, take}
+use Rattle.std.specs.Prelude.{Option}
 use Rattle.record.specs.declared.Record.{Record}
 use Rattle.record.specs.Words.{records}
 use Rattle.path.proofs.SizesLaws.{InRange, in-range}
@@ -18,7 +19,6 @@ use Rattle.parts.specs.declared.Parts.{Parts}
 use Rattle.judge.specs.BadParts.{bad_parts}
 use Rattle.judge.proofs.FitLaws.{fit}
 use Rattle.request.specs.declared.Request.{Request}
-use Rattle.request.specs.declared.Waiting.{Waiting}
 use Rattle.request.specs.Tables.{request_rows}
 use Rattle.request.specs.Job.{job_of}
 use Rattle.request.proofs.RequestLaws.{request-numbered}
@@ -26,16 +26,16 @@ use Rattle.listing.specs.Listing.{places_asked}
 use Rattle.checks.specs.declared.Call.TheVariants.{Min, Begin}
 use Rattle.checks.specs.Checks.{bad_with, busy_rows, call_rows}
 
-busy-numbered : (bad : Bool) (w : Waiting) → Numbered (busy_rows bad w)
+busy-numbered : (bad : Bool) (w : Option Request) → Numbered (busy_rows bad w)
 busy-numbered bad w = next 13 (omega arith) (next 2 (omega arith) none)
 
 -- the first rows give a number, or the rows after them do
-module _ (xs : List Refusal) (numbered : Numbered xs) (n : ℕ) (e : n ≡ first_given xs) (ys : List Refusal) where
-  stops : (n ≡ 0 → ⊥) → n ≡ first_given (xs ++ ys)
-  stops h = e ∙ sym (first-append ys numbered ∙ or-first _ _ (λ z. h (e ∙ z)))
+module _ (xs ys : List Refusal) (numbered : Numbered xs) where
+  stops : {n : ℕ} → (n ≡ 0 → ⊥) → n ≡ first_given xs → n ≡ first_given (xs ++ ys)
+  stops h e = e ∙ sym (first-append ys numbered ∙ or-first _ _ (λ z. h (e ∙ z)))
 
-  goes_on : n ≡ 0 → first_given (xs ++ ys) ≡ first_given ys
-  goes_on z = first-append ys numbered ∙ or-second _ _ (sym e ∙ z)
+  goes_on : 0 ≡ first_given xs → first_given (xs ++ ys) ≡ first_given ys
+  goes_on e = first-append ys numbered ∙ or-second _ _ (sym e)
 
 -- the root's places, loaded into words
 pub root-loaded : (last ws : List ℕ) (root : List Record) → last ≡ laid_over ws 0 (take 64 root) → length root ≡ 64 → length ws ≡ 256
@@ -46,21 +46,21 @@ root-loaded last ws root e h l = ap records e ∙ root-laid ws root h l
 pub parts-range : (p : Parts) (root : List Record) → bad_parts p root ≡ false → InRange p.sizes
 parts-range p root e = in-range p.sizes (fit p root e).sizes
 
-pub good-range : (p : Parts) (root : List Record) (w : Waiting) → bad_with p root w ≡ false → InRange p.sizes
+pub good-range : (p : Parts) (root : List Record) (w : Option Request) → bad_with p root w ≡ false → InRange p.sizes
 good-range p root w e = parts-range p root ((neither _ _).0 e).0
 
-pub idle-range : (p : Parts) (root : List Record) (w : Waiting) (n : ℕ) → n ≡ first_given (busy_rows (bad_with p root w) w) → n ≡ 0 → InRange p.sizes
-idle-range p root w n e z = good-range p root w (none-given 13 _ _ (omega arith) (sym e ∙ z)).0
+pub idle-range : (p : Parts) (root : List Record) (w : Option Request) → 0 ≡ first_given (busy_rows (bad_with p root w) w) → InRange p.sizes
+idle-range p root w e = good-range p root w (none-given 13 _ _ (omega arith) (sym e)).0
 
-module _ (bad : Bool) (p : Parts) (root : List Record) (w : Waiting) (n : ℕ) (e : n ≡ first_given (busy_rows bad w)) where
+module _ (bad : Bool) (p : Parts) (root : List Record) (w : Option Request) where
   -- ---- FindMin: busy, or no live event
-  pub min-busy : (n ≡ 0 → ⊥) → n ≡ first_given (call_rows bad p root w Min)
+  pub min-busy : {n : ℕ} → (n ≡ 0 → ⊥) → n ≡ first_given (busy_rows bad w) → n ≡ first_given (call_rows bad p root w Min)
   unfolding call_rows
-  min-busy h = stops (busy_rows bad w) (busy-numbered bad w) n e (row 8 (eqb p.c 0) ∷ []) h
+  min-busy = stops (busy_rows bad w) (row 8 (eqb p.c 0) ∷ []) (busy-numbered bad w)
 
-  pub min-empty : n ≡ 0 → first_given (call_rows bad p root w Min) ≡ cond (eqb p.c 0) 8 0
+  pub min-empty : 0 ≡ first_given (busy_rows bad w) → first_given (call_rows bad p root w Min) ≡ cond (eqb p.c 0) 8 0
   unfolding call_rows first_given
-  min-empty z = goes_on (busy_rows bad w) (busy-numbered bad w) n e (row 8 (eqb p.c 0) ∷ []) z
+  min-empty = goes_on (busy_rows bad w) (row 8 (eqb p.c 0) ∷ []) (busy-numbered bad w)
 
   -- ---- begin: busy, or the request's own fault, or no room
   module _ (request : Request) (room : ℕ) where
@@ -70,20 +70,19 @@ module _ (bad : Bool) (p : Parts) (root : List Record) (w : Waiting) (n : ℕ) (
     abbrev last : List Refusal
     last = row 11 (ltb room (places_asked p.sizes.h (job_of p request))) ∷ []
 
-    pub begin-busy : (n ≡ 0 → ⊥) → n ≡ first_given (call_rows bad p root w (Begin request room))
+    pub begin-busy : {n : ℕ} → (n ≡ 0 → ⊥) → n ≡ first_given (busy_rows bad w) → n ≡ first_given (call_rows bad p root w (Begin request room))
     unfolding call_rows
-    begin-busy h = stops (busy_rows bad w) (busy-numbered bad w) n e (rows ++ last) h
+    begin-busy = stops (busy_rows bad w) (rows ++ last) (busy-numbered bad w)
 
-    module _ (z : n ≡ 0) where
+    module _ (idle : 0 ≡ first_given (busy_rows bad w)) where
       goes-to-rows : first_given (call_rows bad p root w (Begin request room)) ≡ first_given (rows ++ last)
       unfolding call_rows
-      goes-to-rows = goes_on (busy_rows bad w) (busy-numbered bad w) n e (rows ++ last) z
+      goes-to-rows = goes_on (busy_rows bad w) (rows ++ last) (busy-numbered bad w) idle
 
-      module _ (m : ℕ) (f : m ≡ first_given rows) where
-        pub begin-fault : (m ≡ 0 → ⊥) → m ≡ first_given (call_rows bad p root w (Begin request room))
-        begin-fault h = stops rows (request-numbered p root request) m f last h ∙ sym goes-to-rows
+      pub begin-fault : {n : ℕ} → (n ≡ 0 → ⊥) → n ≡ first_given rows → n ≡ first_given (call_rows bad p root w (Begin request room))
+      begin-fault h e = stops rows last (request-numbered p root request) h e ∙ sym goes-to-rows
 
-        pub begin-room : m ≡ 0
-            → first_given (call_rows bad p root w (Begin request room)) ≡ cond (ltb room (places_asked p.sizes.h (job_of p request))) 11 0
-        unfolding first_given
-        begin-room y = goes-to-rows ∙ goes_on rows (request-numbered p root request) m f last y
+      pub begin-room : 0 ≡ first_given rows
+          → first_given (call_rows bad p root w (Begin request room)) ≡ cond (ltb room (places_asked p.sizes.h (job_of p request))) 11 0
+      unfolding first_given
+      begin-room e = goes-to-rows ∙ goes_on rows last (request-numbered p root request) e

@@ -13,19 +13,15 @@ use record::{Leaf, RECORD_WORDS, Record, Stamp};
 
 // "the record that has this label and stamp". Stamps differ most, so they are looked at first; the dummy has label and
 // stamp 0, and is no record.
+#[tactic(auto, unfolding(crate::specs::Removal::named))]
 fn is_named(record: Record, label: Leaf, stamp: Stamp) -> bool
     ensures { result ≡ named label stamp «record» }
 {
-    if record.stamp.0 != stamp.0 {
-        return false;
-    }
-    if record.label.0 != label.0 {
-        return false;
-    }
-    !record.is_dummy()
+    record.stamp == stamp && record.label == label && !record.is_dummy()
 }
 
 // For crates above: the place of the first record of this label and stamp; the number of places if there is none.
+// Kept: that number for none, as `seek` has it, by which the rule of a removal is told.
 pub fn find(w: &[u64], label: Leaf, stamp: Stamp) -> usize
     ensures { result ≡ seek (named label stamp) (length (records w.now)) (records w.now) }
 {
@@ -45,9 +41,9 @@ pub fn clear(w: &mut [u64], label: Leaf, stamp: Stamp) -> bool
     ensures { Cleared (named label stamp) w.old w.new result }
 {
     let i = find(w, label, stamp);
-    if i < w.len() / RECORD_WORDS {
+    let found = i < w.len() / RECORD_WORDS;
+    if found {
         Record::DUMMY.write(w, i);
-        return true;
     }
-    false
+    found
 }

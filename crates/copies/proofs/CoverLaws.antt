@@ -6,7 +6,7 @@ use mathlib.Core.List.{List, [], ◌∷◌, ◌++◌, map, map-append}
 use mathlib.Core.Path.{◌≡◌, refl, ◌∙◌}
 use native.Mathlib.Omega.{arith}
 use lib.ListN.{length, get_or, take, drop, length-map, length-drop}
-use lib.Seq.{take-add, length-take-le, get_or-take}
+use lib.Seq.{take-add, length-take-le}
 use Rattle.path.specs.Path.{bucket}
 use Rattle.copies.specs.Copy.{listed, Stands, AllStand, Covered}
 
@@ -19,11 +19,9 @@ stands_at z n (b ∷ list) (suc i) all l = stands_at z n list i (λ c m. all c (
 
 -- a covered bucket stands in the tree
 pub covered-at :
-    {z n : ℕ} {list : List ℕ} {many : ℕ} → Covered z n list many → (i : ℕ) → i < many
-    → Stands z n (bucket (get_or list i 0))
-covered-at {z} {n} {list} {many} c i l =
-    let e = length-take-le many list c.counted in
-    rw (get_or-take many list i 0 l) at (stands_at z n (take many list) i c.stand (omega arith))
+    {z n : ℕ} {list : List ℕ} {many : ℕ} → Covered z n list many → (i : ℕ) → i < length (take many list)
+    → Stands z n (bucket (get_or (take many list) i 0))
+covered-at {z} {n} {list} {many} c i l = stands_at z n (take many list) i c.stand l
 
 module _ (whole least : ℕ) {z n : ℕ} {list : List ℕ} (c : Covered z n list (whole + least)) where
   both-stand : AllStand z n ((listed list whole least).whole ++ (listed list whole least).least)

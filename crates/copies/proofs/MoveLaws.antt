@@ -9,7 +9,7 @@ use native.Mathlib.Nat.{mul-le-mul_right}
 use native.Mathlib.Numerals.{add-one}
 use lib.Dec.{ltb}
 use lib.ListN.{length, get_or, take, drop, length-append, length-drop, drop_of_length-le}
-use lib.Seq.{length-take-le, take_all, take_at, drop_at, take-add, drop-cons, drop-drop, get_or-take, paste, length-paste}
+use lib.Seq.{length-take-le, take_all, take_at, drop_at, take-add, drop-cons, drop-drop, paste, length-paste}
 use borrow.Author.Tests.{lt-ltb, le-ltb}
 use Rattle.path.specs.Path.{bucket}
 use Rattle.path.specs.Layout.{record_words, bucket_words, bucket_start}
@@ -19,23 +19,19 @@ use Rattle.copies.proofs.LayoutLaws.{part_length}
 use Rattle.copies.proofs.FetchLaws.{fetched-length}
 
 -- the numbers from place i on, the first apart
-next-number :
-    (list : List ℕ) (many i : ℕ) → many ≤ length list → i < many
-    → drop i (take many list) ≡ get_or list i 0 ∷ drop (i + 1) (take many list)
-next-number list many i l m =
-    let e = length-take-le many list l in
-    drop-cons (take many list) i 0 (omega arith) ∙ rw (get_or-take many list i 0 m, add-one)
+next-number : (ns : List ℕ) (i : ℕ) → i < length ns → drop i ns ≡ get_or ns i 0 ∷ drop (i + 1) ns
+next-number ns i l = drop-cons ns i 0 l ∙ rw add-one
 
 -- ---- fetch: the parts of some numbers, the first of which is the i-th of its list
 unfoldable pub parts_from : ℕ → List ℕ → ℕ → ℕ → List ℕ → List ℕ
 parts_from z tree whole i [] = []
 parts_from z tree whole i (n ∷ ns) = part_of z (part_words z whole i) tree (bucket n) ++ parts_from z tree whole (i + 1) ns
 
-pub whole_part : (z whole i : ℕ) → i < whole → part_words z whole i ≡ bucket_words z
+whole_part : (z whole i : ℕ) → i < whole → part_words z whole i ≡ bucket_words z
 unfolding part_words
 whole_part z whole i l = rw (lt-ltb i whole l)
 
-pub least-part : (z whole i : ℕ) → whole ≤ i → part_words z whole i ≡ record_words
+least-part : (z whole i : ℕ) → whole ≤ i → part_words z whole i ≡ record_words
 unfolding part_words
 least-part z whole i l = rw (le-ltb i whole l)
 
@@ -75,7 +71,6 @@ module _ (whole least : ℕ) {z : ℕ} (tree : List ℕ) {list : List ℕ} (c : 
 
 -- the parts of the first i numbers are fetched
 pub record Fetching (z : ℕ) (tree list : List ℕ) (whole least : ℕ) (old now : List ℕ) (at i : ℕ) : Type 0 where
-  pub place : i ≤ whole + least
   pub reached : at ≤ length (fetched_words z tree (listed list whole least))
   pub left :
       drop at (fetched_words z tree (listed list whole least))
@@ -88,23 +83,15 @@ module _
   pub fetching-starts : Fetching z tree list whole least old old 0 0
   fetching-starts =
       record {
-        place = omega arith;
         reached = omega arith;
         left = sym (parts-fetched whole least tree c);
         done = refl;
       }
 
   module _ (now : List ℕ) (at i : ℕ) (f : Fetching z tree list whole least old now at i) where
-    pub fetching-room : length now ≡ length old
-    fetching-room =
-        let n = fetched-words whole least tree c in
-        ap length f.done
-        ∙ length-append (take at (fetched_words z tree (listed list whole least))) (drop at old)
-        ∙ rw (length-take-le at (fetched_words z tree (listed list whole least)) f.reached, length-drop) (omega (arith, f.reached))
-
-    module _ (l : i < whole + least) where
+    module _ (l : i < length (take (whole + least) list)) where
       own : List ℕ
-      own = part_of z (part_words z whole i) tree (bucket (get_or list i 0))
+      own = part_of z (part_words z whole i) tree (bucket (get_or (take (whole + least) list) i 0))
 
       rest : List ℕ
       rest = parts_from z tree whole (i + 1) (drop (i + 1) (take (whole + least) list))
@@ -115,7 +102,7 @@ module _
 
       left-now : drop at (fetched_words z tree (listed list whole least)) ≡ own ++ rest
       unfolding own rest parts_from
-      left-now = f.left ∙ rw (next-number list (whole + least) i c.counted l)
+      left-now = f.left ∙ rw (next-number (take (whole + least) list) i l)
 
       next-reached : at + part_words z whole i ≤ length (fetched_words z tree (listed list whole least))
       next-reached =
@@ -132,14 +119,13 @@ module _
       fetching-fits = omega (arith, next-reached, fetched-words whole least tree c)
 
       pub fetching-turns :
-          (from : ℕ) → from ≡ bucket_start z (bucket (get_or list i 0))
+          (from : ℕ) → from ≡ bucket_start z (bucket (get_or (take (whole + least) list) i 0))
           → Fetching z tree list whole least old (paste now at (drop from tree) (part_words z whole i)) (at + part_words z whole i) (i + 1)
       unfolding own rest
       fetching-turns from e =
           let all = fetched_words z tree (listed list whole least) in
           let front = length-take-le at all f.reached in
           record {
-            place = omega arith;
             reached = next-reached;
             left = rw (← drop-drop (part_words z whole i) at, left-now) (drop_at own rest (part_words z whole i) own-length);
             done =
@@ -156,12 +142,12 @@ module _
                 );
           }
 
-    pub fetching-ends : whole + least ≤ i → now ≡ fetched z tree (listed list whole least) old
+    pub fetching-ends : length (take (whole + least) list) ≤ i → now ≡ fetched z tree (listed list whole least) old
     unfolding parts_from
     fetching-ends l =
         let all = fetched_words z tree (listed list whole least) in
         let none : drop i (take (whole + least) list) ≡ [] =
-        drop_of_length-le (take (whole + least) list) {i = i} (rw (length-take-le (whole + least) list c.counted) l) in
+        drop_of_length-le (take (whole + least) list) {i = i} l in
         let gone : drop at all ≡ [] = f.left ∙ rw none in
         let e : at ≡ length all = omega (arith, length-drop at all, ap length gone, f.reached) in
         f.done ∙ rw (e, take_all (length all) all (omega arith))
@@ -169,7 +155,6 @@ module _
 -- ---- store: with the rest stored too, the tree is as it should be
 pub record Storing (z : ℕ) (list : List ℕ) (whole : ℕ) (words old now : List ℕ) (at i : ℕ) : Type 0 where
   pub room : length now ≡ length old
-  pub place : i ≤ whole
   pub reached : at ≡ i * bucket_words z
   pub done :
       stored z (map bucket (drop i (take whole list))) (drop at words) now
@@ -183,18 +168,20 @@ module _
     {z : ℕ} {list : List ℕ} {whole : ℕ} (words old : List ℕ) (c : Covered z (length old) list whole)
     (enough : whole * bucket_words z ≤ length words) where
   pub storing-starts : Storing z list whole words old old 0 0
-  storing-starts = record { room = refl; place = omega arith; reached = omega arith; done = refl }
+  storing-starts = record { room = refl; reached = omega arith; done = refl }
 
   module _ (now : List ℕ) (at i : ℕ) (s : Storing z list whole words old now at i) where
-    module _ (l : i < whole) where
+    module _ (l : i < length (take whole list)) where
       pub storing-fits : at + bucket_words z ≤ length words
-      storing-fits = omega (arith, s.reached, next_fits i whole (bucket_words z) l)
+      storing-fits =
+          let n = length-take-le whole list c.counted in
+          omega (arith, s.reached, next_fits i whole (bucket_words z) (omega arith))
 
-      pub storing-within : bucket_start z (bucket (get_or list i 0)) + bucket_words z ≤ length now
+      pub storing-within : bucket_start z (bucket (get_or (take whole list) i 0)) + bucket_words z ≤ length now
       storing-within = rw s.room (covered-at c i l).within
 
       pub storing-turns :
-          (to : ℕ) → to ≡ bucket_start z (bucket (get_or list i 0))
+          (to : ℕ) → to ≡ bucket_start z (bucket (get_or (take whole list) i 0))
           → Storing z list whole words old (paste now to (drop at words) (bucket_words z)) (at + bucket_words z) (i + 1)
       unfolding stored
       storing-turns to e =
@@ -203,17 +190,14 @@ module _
           record {
             room =
                 rw e
-                (length-paste now (bucket_start z (bucket (get_or list i 0))) (drop at words) (bucket_words z) storing-within long)
+                (length-paste now (bucket_start z (bucket (get_or (take whole list) i 0))) (drop at words) (bucket_words z) storing-within long)
                 ∙ s.room;
-            place = omega arith;
             reached = omega (arith, s.reached);
             done =
                 rw (← drop-drop (bucket_words z) at words, e)
-                (rw (next-number list whole i c.counted l) at s.done);
+                (rw (next-number (take whole list) i l) at s.done);
           }
 
-    pub storing-ends : whole ≤ i → now ≡ stored z (map bucket (take whole list)) words old
+    pub storing-ends : length (take whole list) ≤ i → now ≡ stored z (map bucket (take whole list)) words old
     unfolding stored
-    storing-ends l =
-        let e = length-take-le whole list c.counted in
-        rw (drop_of_length-le (take whole list) {i = i} (omega arith)) at s.done
+    storing-ends l = rw (drop_of_length-le (take whole list) {i = i} l) at s.done

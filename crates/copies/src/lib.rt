@@ -25,22 +25,22 @@ pub fn fill_dummies(tree: &mut [u64])
 {
     let dummy = Record::DUMMY;
     let places = tree.len() / RECORD_WORDS;
-    let mut place = 0;
-    while place < places {
+    for place in 0..places {
         dummy.write(tree, place);
-        place += 1;
     }
 }
 
 // How many words of the i-th bucket of a list are fetched.
+#[tactic(auto, unfolding(crate::specs::Copy::part_words))]
 fn part_words(z: u64, whole: usize, i: usize) -> usize
     requires { z ≤ 5 }
     ensures { result ≡ part_words z whole i }
 {
     if i < whole {
-        return layout::bucket_words(z);
+        layout::bucket_words(z)
+    } else {
+        RECORD_WORDS
     }
-    RECORD_WORDS
 }
 
 // For crates above: the first `whole` numbers' buckets, then the next `least` numbers' least records, from word 0 on.
@@ -56,15 +56,12 @@ pub fn fetch_listed(
     requires least_in_bounds { whole * bucket_words z + least * 4 ≤ length words.old }
     ensures { words.new ≡ fetched z tree.now (listed list.now whole least) words.old }
 {
-    let covered = whole + least;
     let mut at = 0;
-    let mut i = 0;
-    while i < covered {
+    for (i, &number) in list[..whole + least].iter().enumerate() {
         let part = part_words(z, whole, i);
-        let from = layout::bucket_start(z, list[i]);
+        let from = layout::bucket_start(z, number);
         copy_words(words, at, tree, from, part);
         at += part;
-        i += 1;
     }
 }
 
@@ -76,11 +73,9 @@ pub fn store_listed(z: u64, tree: &mut [u64], list: &[u64], whole: usize, words:
 {
     let bucket = layout::bucket_words(z);
     let mut at = 0;
-    let mut i = 0;
-    while i < whole {
-        let to = layout::bucket_start(z, list[i]);
+    for &number in &list[..whole] {
+        let to = layout::bucket_start(z, number);
         copy_words(tree, to, words, at, bucket);
         at += bucket;
-        i += 1;
     }
 }

@@ -24,6 +24,7 @@ const PAIR_SIBLINGS: u64 = 2;
 
 // For crates above: Damaged for the one path of ExtractMin and Delete. `slots` is the scratch of the way, `least` the
 // root's least record.
+#[tactic(auto, unfolding(crate::specs::Damaged::path_damaged))]
 pub fn path_damaged(
     path: &[u64],
     sibs: &[u64],
@@ -37,24 +38,18 @@ pub fn path_damaged(
     requires leaves_value { rule.leaves ≡ 2 ^ sizes.h }
     ensures { result ≡ path_damaged sizes.h sizes.r rule least (fetched_in sizes.z leaf path.now sibs.now) (records slots.now) }
 {
-    if !all_sound(path, sibs, sizes, leaf, rule, PATH_SIBLINGS) {
-        return true;
-    }
-    if stamps::stamp_twice(slots) {
-        return true;
-    }
-    if !leasts_true(path, sibs, sizes, leaf) {
-        return true;
-    }
     let own = Record::read(path, 0);
     let other = Record::read(sibs, 0);
     let kids = least::kids_least(sizes.bucket_at(leaf, 1), own, other);
-    let r = sizes.r as usize;
-    !least.same(least::least_over(slots, 0, r, kids))
+    !all_sound(path, sibs, sizes, leaf, rule, PATH_SIBLINGS)
+        || stamps::stamp_twice(slots)
+        || !leasts_true(path, sibs, sizes, leaf)
+        || least != least::least_over(slots, 0, sizes.r as usize, kids)
 }
 
 // For crates above: Damaged for an Insert's two paths, whose siblings were fetched from level 2 on. `all` is a scratch with
 // the root's slots, the first path's and the second's.
+#[tactic(auto, unfolding(crate::specs::Damaged::pair_damaged))]
 pub fn pair_damaged(
     one: &[u64],
     two: &[u64],
@@ -72,24 +67,13 @@ pub fn pair_damaged(
     requires r_in_bounds { (4 * sizes.r ≤ length all.now) × (rule.leaves ≡ 2 ^ sizes.h) }
     ensures { result ≡ pair_damaged sizes.h sizes.r rule least (fetched_in sizes.z first one.now one_sibs.now) (fetched_in sizes.z second two.now two_sibs.now) (records all.now) }
 {
-    if !all_sound(one, one_sibs, sizes, first, rule, PAIR_SIBLINGS) {
-        return true;
-    }
-    if !all_sound(two, two_sibs, sizes, second, rule, PAIR_SIBLINGS) {
-        return true;
-    }
-    if stamps::stamp_twice(all) {
-        return true;
-    }
-    if !leasts_true(one, one_sibs, sizes, first) {
-        return true;
-    }
-    if !leasts_true(two, two_sibs, sizes, second) {
-        return true;
-    }
     let lower = Record::read(one, 0);
     let upper = Record::read(two, 0);
     let kids = lower.smaller(upper.smaller(Record::DUMMY));
-    let r = sizes.r as usize;
-    !least.same(least::least_over(all, 0, r, kids))
+    !all_sound(one, one_sibs, sizes, first, rule, PAIR_SIBLINGS)
+        || !all_sound(two, two_sibs, sizes, second, rule, PAIR_SIBLINGS)
+        || stamps::stamp_twice(all)
+        || !leasts_true(one, one_sibs, sizes, first)
+        || !leasts_true(two, two_sibs, sizes, second)
+        || least != least::least_over(all, 0, sizes.r as usize, kids)
 }

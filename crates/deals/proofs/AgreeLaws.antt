@@ -5,10 +5,10 @@ use mathlib.Core.Bool.{true}
 use mathlib.Core.List.{List, [], ◌∷◌}
 use mathlib.Core.Logic.{⊎_elim}
 use mathlib.Core.Path.{◌≡◌, sym, ap, ◌∙◌}
+use Rattle.std.specs.Prelude.{None}
 use Rattle.path.specs.declared.sizes.Sizes.{Sizes}
 use Rattle.path.specs.Sizes.{leaves_of}
 use Rattle.request.specs.declared.Request.{Request}
-use Rattle.request.specs.declared.Waiting.TheVariants.{Nothing}
 use Rattle.card.specs.Calls.{list_of}
 use Rattle.demands.specs.Queue.{Queue}
 use Rattle.world.specs.World.{World, Asked, insert, extract, delete, Call, begin, finish, find_min, step}
@@ -22,7 +22,7 @@ use Rattle.deals.proofs.MeetLaws.{Pair, Meets, same-c, pair-look, insert-meets, 
 
 -- ---- the rack sees the same
 pub data Agree : World → World → List Call → List Call → Type 0 where
-  over : {u v : World} → v.card.waiting ≡ Nothing → Agree u v [] []
+  over : {u v : World} → v.card.waiting ≡ None → Agree u v [] []
   overflows : {u v : World} {c d : Call} {cs ds : List Call} → number_given (step v d) ≡ 10 → Agree u v (c ∷ cs) (d ∷ ds)
   goes_on : {u v : World} {c d : Call} {cs ds : List Call} → seen v d ≡ seen u c → well (step v d).answer ≡ true
       → Agree (step u c).world (step v d).world cs ds → Agree u v (c ∷ cs) (d ∷ ds)

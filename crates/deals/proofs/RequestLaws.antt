@@ -81,7 +81,7 @@ spoken silent = false
 
 pub spoken-well : (a : Answer) → spoken (says a) ≡ true → well a ≡ true
 spoken-well Started e = refl
-spoken-well (Listed whole least) e = refl
+spoken-well (Listed n) e = refl
 spoken-well (Least r words) e = refl
 spoken-well Withdrawn e = e
 spoken-well (Inserted label stamp words) e = refl
@@ -97,7 +97,7 @@ heard silent = true
 
 well-heard : (a : Answer) → well a ≡ true → heard (says a) ≡ true
 well-heard Started e = refl
-well-heard (Listed whole least) e = refl
+well-heard (Listed n) e = refl
 well-heard (Least r words) e = refl
 well-heard Withdrawn e = refl
 well-heard (Inserted label stamp words) e = refl

@@ -9,6 +9,7 @@ use mathlib.Mathlib.Data.Bool.Basic.{dichotomy}
 use native.Mathlib.Omega.{arith}
 use lib.ListN.{length, take, length-take}
 use borrow.Author.Tests.{ne_eqb}
+use Rattle.std.specs.Prelude.{Option, None}
 use Rattle.record.specs.declared.Record.{Record}
 use Rattle.record.specs.Standing.{is_dummy}
 use Rattle.record.specs.Many.{every, reals}
@@ -17,8 +18,6 @@ use Rattle.path.specs.Sizes.{leaves_of, in_range}
 use Rattle.path.proofs.SizesLaws.{in-range}
 use Rattle.root.specs.Root.{root_full}
 use Rattle.card.specs.declared.Card.{Card}
-use Rattle.request.specs.declared.Waiting.{Waiting}
-use Rattle.request.specs.declared.Waiting.TheVariants.{Nothing}
 use Rattle.answers.specs.Answers.{number_of}
 use Rattle.card.proofs.GoodLaws.{good}
 use Rattle.served.proofs.CallLaws.{ready-card}
@@ -35,6 +34,7 @@ use Rattle.deals.specs.Trace.{number_given, until_overflow}
 use Rattle.deals.specs.Sequences.{labelled}
 use Rattle.deals.specs.Demand3.{NeverOverflows}
 use Rattle.deals.proofs.ThereLaws.{length-given}
+use Rattle.request.specs.declared.Request.{Request}
 
 -- ---- the root of a card that holds
 all-real : (xs : List Record) → every (λ x. not (is_dummy x)) xs ≡ true → reals xs ≡ length xs
@@ -45,7 +45,7 @@ all-real (x ∷ xs) e = elim (dichotomy (is_dummy x)) [
   | inl f ↦ rw f (ap suc (all-real xs (rw f at e)))
 ]
 
-module _ (s : Sizes) (u : World) (p : Waiting) (q : Queue) (h : Holds s u p q) (roomy : leaves_of s.h ≤ s.r) where
+module _ (s : Sizes) (u : World) (p : Option Request) (q : Queue) (h : Holds s u p q) (roomy : leaves_of s.h ≤ s.r) where
   abbrev k : Card
   k = u.card
 
@@ -79,7 +79,7 @@ module _ (s : Sizes) (u : World) (p : Waiting) (q : Queue) (h : Holds s u p q) (
       (λ (a : Goes s u p q c (step u c)). omega (arith, a.answers.passes, e)) (plays s u p q h c).card
 
 -- ---- every list of calls
-calm : (s : Sizes) → leaves_of s.h ≤ s.r → (cs : List Call) (u : World) (p : Waiting) (q : Queue) → Holds s u p q → until_overflow u cs ≡ length cs
+calm : (s : Sizes) → leaves_of s.h ≤ s.r → (cs : List Call) (u : World) (p : Option Request) (q : Queue) → Holds s u p q → until_overflow u cs ≡ length cs
 unfolding until_overflow
 calm s roomy [] u p q h = refl
 calm s roomy (c ∷ cs) u p q h =
@@ -91,4 +91,4 @@ calm s roomy (c ∷ cs) u p q h =
 
 pub never-overflows : (s : Sizes) → in_range s ≡ true → leaves_of s.h ≤ s.r → (cs : List Call) → NeverOverflows s cs
 never-overflows s ok roomy cs label below =
-    calm s roomy (labelled label 0 cs) (fresh_world s) Nothing empty_queue (fresh_holds s ok) ∙ length-given label 0 cs
+    calm s roomy (labelled label 0 cs) (fresh_world s) None empty_queue (fresh_holds s ok) ∙ length-given label 0 cs

@@ -11,6 +11,7 @@ use native.Mathlib.Omega.{arith}
 use lib.Dec.{eqb}
 use lib.ListN.{length, length-map}
 use borrow.Author.Tests.{eqb-true, eqb-false, ne_eqb, le-ltb}
+use Rattle.std.specs.Prelude.{None, Some}
 use Rattle.record.specs.Standing.{is_proper}
 use Rattle.record.proofs.StandingLaws.{proper-true, known-below}
 use Rattle.record.proofs.ManyLaws.{every-each}
@@ -21,7 +22,6 @@ use Rattle.refusal.proofs.RefusalLaws.{none-given}
 use Rattle.parts.specs.Parts.{rule_of}
 use Rattle.rack.proofs.ListedLaws.{listed-laid}
 use Rattle.request.specs.declared.Request.{Request}
-use Rattle.request.specs.declared.Waiting.TheVariants.{Nothing, For}
 use Rattle.request.specs.Job.{job_of}
 use Rattle.answers.specs.declared.Answer.{Answer}
 use Rattle.answers.specs.declared.Answer.TheVariants.{Started, Listed, Least, Withdrawn, Inserted, Extracted, Deleted, Refused}
@@ -50,7 +50,7 @@ use Rattle.deals.specs.Sequences.{well}
 -- an answer that is well is no refusal
 well-numbered : (a : Answer) → well a ≡ true → number_of a ≡ 0
 well-numbered Started e = refl
-well-numbered (Listed whole least) e = refl
+well-numbered (Listed n) e = refl
 well-numbered (Least r words) e = refl
 well-numbered Withdrawn e = refl
 well-numbered (Inserted label stamp words) e = refl
@@ -95,7 +95,7 @@ module _ (v : World) (words : List ℕ) (e : number_given (step v (finish words)
 
 -- ---- what holds between two requests
 abbrev pub Idle : Sizes → World → Queue → Type 0
-Idle s u q = Holds s u Nothing q
+Idle s u q = Holds s u None q
 
 module _ (s : Sizes) (u : World) (q : Queue) (i : Idle s u q) where
   pub idle-waits : waits u.card.waiting ≡ false
@@ -170,7 +170,7 @@ module _ (u : World) where
     look-passes h = look-number ∙ rw (idle-fine s u q i, idle-waits s u q i, ne_eqb u.card.c 0 h)
 
     pub look-idle : number_given (step u find_min) ≡ 0 → Idle s (step u find_min).world q
-    look-idle e = (passed (plays s u Nothing q i find_min) e).holds
+    look-idle e = (passed (plays s u None q i find_min) e).holds
 
 -- ---- a request, begun and finished
 abbrev pub begun_by : World → {w : Request} → Asked w → List ℕ → World
@@ -201,11 +201,11 @@ module _ (s : Sizes) (u : World) (q : Queue) {w : Request} (asked : Asked w) (pl
 
   module _ (i : Idle s u q) (b : number_given (step u (begin asked places)) ≡ 0) where
     -- its request is then pending
-    abbrev begun-holds : Holds s begun (For w) q
-    begun-holds = (passed (plays s u Nothing q i (begin asked places)) b).holds
+    abbrev begun-holds : Holds s begun (Some w) q
+    begun-holds = (passed (plays s u None q i (begin asked places)) b).holds
 
-    ending : Plays s begun (For w) q (finish words) done
-    ending = plays s begun (For w) q begun-holds (finish words)
+    ending : Plays s begun (Some w) q (finish words) done
+    ending = plays s begun (Some w) q begun-holds (finish words)
 
     pub round : number_given done ≡ 0 → Round
     round f =

@@ -85,7 +85,7 @@ labels (c ∷ cs) = label_in (wanted c) ++ labels cs
 -- ---- the first sequence: none refused, withdrawn or Absent, and none left waiting
 abbrev pub well : Answer → Bool
 well Started = true
-well (Listed whole least) = true
+well (Listed n) = true
 well (Least r words) = true
 well Withdrawn = false
 well (Inserted label stamp words) = true

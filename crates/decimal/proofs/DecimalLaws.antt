@@ -9,7 +9,7 @@ use native.Mathlib.Nat.{pow-le-pow_right, le-div_iff_mul-le, div-lt_iff_lt-mul}
 use lib.Dec.{ltb, eqb}
 use lib.ListN.{length}
 use borrow.Author.Tests.{ltb-true, ltb-false, lt-ltb, eqb-false, ne_eqb, not-true}
-use Rattle.decimal.specs.declared.Reading.TheVariants.{Number}
+use Rattle.std.specs.Prelude.{Some}
 use Rattle.decimal.specs.Digits.{digits, width_of, decimal, value_from, value}
 use Rattle.decimal.specs.Field.{all_digits, leading_zero, is_number, reads}
 use Rattle.decimal.proofs.ValueLaws.{is_digit_lem, ten-pos, ten-next, value-digits, digits_value, value-front}
@@ -52,7 +52,7 @@ module _ (n : ℕ) (fits : n < 2 ^ 64) where
         lt-ltb n (2 ^ 64) fits,
       )
 
-  pub printed-is-read : reads (decimal n) ≡ Number n
+  pub printed-is-read : reads (decimal n) ≡ Some n
   printed-is-read = rw (printed-is-number, printed-value)
 
 -- ---- what is read is printed

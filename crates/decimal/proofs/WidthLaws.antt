@@ -1,14 +1,14 @@
 -- How many digits a number has. Assumes nothing.
-use Prim.Native.Nat.{ℕ, zero, suc, ◌+◌, ◌-◌, ◌/◌, ◌^◌, ◌≤◌, ◌<◌}
+use Prim.Native.Nat.{ℕ, zero, suc, ◌+◌, ◌-◌, ◌*◌, ◌^◌, ◌≤◌, ◌<◌, max}
 use mathlib.Core.Bool.{true, false, cond}
 use mathlib.Core.Path.{◌≡◌, refl, sym}
 use native.Mathlib.Omega.{arith}
-use native.Mathlib.Nat.{div-one, div-lt_iff_lt-mul, le-div_iff_mul-le, pow-le-pow_right, mul_comm}
+use native.Mathlib.Nat.{pow-le-pow_right}
 use native.Mathlib.Numerals.{add-one}
 use lib.Dec.{ltb}
 use borrow.Author.Tests.{ltb-true, ltb-false}
 use Rattle.decimal.specs.Digits.{fewest, width_of}
-use Rattle.decimal.proofs.ValueLaws.{ten-pos, ten-next, shorter}
+use Rattle.decimal.proofs.ValueLaws.{ten-next}
 
 -- ---- k is the fewest digits, and no fewer than one, that hold n
 pub record Fewest (n k : ℕ) : Type 0 where
@@ -64,44 +64,14 @@ pub width-fewest : (n : ℕ) → n < 2 ^ 64 → Fewest n (width_of n)
 width-fewest n l =
     found-fewest 19 1 n (omega arith) (λ m. omega arith) (omega arith)
 
--- ---- the loop: `rest` is n without its last `more` digits
-pub record Shortening (n rest more : ℕ) : Type 0 where
-  pub cut : rest ≡ n / 10 ^ more
-  pub few : more ≤ 19
-  pub needed : 0 < more → 10 ^ more ≤ n
-
-pub shortening-starts : (n : ℕ) → Shortening n n 0
-shortening-starts n = record { cut = sym (div-one n); few = omega arith; needed = λ l. omega arith }
-
-module _ (n rest more : ℕ) (s : Shortening n rest more) (fits : n < 2 ^ 64) where
-  reaches : 9 < rest → 10 ^ suc more ≤ n
-  reaches l =
-      let h = (le-div_iff_mul-le {k = 10 ^ more} {x = 10} {y = n} (ten-pos more)).0 (omega (arith, s.cut)) in
-      omega (arith, h, ten-next more, mul_comm 10 (10 ^ more))
-
-  pub room-for-more : 9 < rest → more < 19
-  room-for-more l = (elim (ltb more 19) as (λ t. ltb more 19 ≡ t → more < 19) [
-    | true ↦ λ e. ltb-true more 19 e
-    | false ↦ λ e.
-        let up = pow-le-pow_right {n = 10} (omega arith) {i = 20} {j = suc more} (omega (arith, ltb-false more 19 e)) in
-        omega (arith, reaches l)
-  ]) refl
-
-  pub shortening-turns : 9 < rest → Shortening n (rest / 10) (more + 1)
-  shortening-turns l =
-      record {
-        cut = rw (s.cut, add-one) (shorter n more);
-        few = omega (arith, room-for-more l);
-        needed = λ p. rw add-one (reaches l);
-      }
-
-  pub shortening-ends : rest ≤ 9 → more + 1 ≡ width_of n
-  shortening-ends l =
-      let h = (div-lt_iff_lt-mul {k = 10 ^ more} {x = n} {y = 10} (ten-pos more)).0 (omega (arith, s.cut)) in
-      sym (width_is n (more + 1) (omega (arith, s.few)) (record {
-        some = omega arith;
-        holds = rw add-one (omega (arith, h, ten-next more, mul_comm 10 (10 ^ more)));
-        needed = λ p.
-            let back : more + 1 - 1 ≡ more = omega arith in
-            rw back (s.needed (omega arith));
-      }))
+-- ---- the number, or 1 where it is 0, lies between two powers of ten
+pub width-found : (n k : ℕ) → k < 20 → 10 ^ k ≤ max n 1 → max n 1 < 10 * 10 ^ k → k + 1 ≡ width_of n
+width-found n k few low high =
+    sym (width_is n (k + 1) (omega arith) (record {
+      some = omega arith;
+      holds = rw add-one (omega (arith, ten-next k));
+      needed = λ p.
+          let back : k + 1 - 1 ≡ k = omega arith in
+          let up = pow-le-pow_right {n = 10} (omega arith) {i = 1} {j = k} (omega arith) in
+          rw back (omega arith);
+    }))

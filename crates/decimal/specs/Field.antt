@@ -1,8 +1,6 @@
 -- Which fields are numbers: document 01, "numbers are plain decimal below 2^64 without leading zeros". Assumes nothing.
-use Rattle.std.specs.Prelude.{ℕ, ◌^◌, Bool, true, not, ◌&&◌, cond, List, [], ◌∷◌, ltb, leb, eqb, length, get_or}
+use Rattle.std.specs.Prelude.{ℕ, ◌^◌, Bool, true, not, ◌&&◌, cond, List, [], ◌∷◌, ltb, leb, eqb, length, get_or, Option, Some, None}
 use Rattle.decimal.specs.Digits.{value}
-use Rattle.decimal.specs.declared.Reading.{Reading}
-use Rattle.decimal.specs.declared.Reading.TheVariants.{Number, Unreadable}
 
 abbrev pub is_digit : ℕ → Bool
 is_digit b = leb 48 b && leb b 57
@@ -21,5 +19,5 @@ leading_zero field = eqb (get_or field 0 0) 48 && ltb 1 (length field)
 unfoldable pub is_number : List ℕ → Bool
 is_number field = not (is_empty field) && not (leading_zero field) && all_digits field && ltb (value field) (2 ^ 64)
 
-abbrev pub reads : List ℕ → Reading
-reads field = cond (is_number field) (Number (value field)) Unreadable
+abbrev pub reads : List ℕ → Option ℕ
+reads field = cond (is_number field) (Some (value field)) None

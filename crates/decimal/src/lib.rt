@@ -9,81 +9,41 @@ ghost use Rattle.decimal.specs.Digits.{width_of, decimal};
 ghost use Rattle.decimal.specs.Field.{leading_zero, reads};
 ghost use Rattle.decimal.specs.Promises.{Laid};
 
-// What a field says.
-#[derive(Clone, Copy)]
-pub enum Reading {
-    Number(u64),
-    Unreadable,
-}
-
-// 2^64 - 1.
-const MOST: u64 = 18446744073709551615;
-
-// The bytes of 0 and 9.
-const FIRST_DIGIT: u64 = 48;
-
-const LAST_DIGIT: u64 = 57;
-
-fn wide(b: u8) -> u64
-    ensures { result ≡ b }
-{
-    b as u64
-}
-
 fn leading_zero(field: &[u8]) -> bool
     ensures { result ≡ leading_zero field.now }
 {
-    if field.len() > 1 {
-        field[0] == b'0'
-    } else {
-        false
-    }
+    field.len() > 1 && field[0] == b'0'
 }
 
 // The number that a field is, byte for byte.
-pub fn read(field: &[u8]) -> Reading
+pub fn read(field: &[u8]) -> Option<u64>
     ensures { result ≡ reads field.now }
 {
-    if field.len() == 0 {
-        return Reading::Unreadable;
+    if field.is_empty() {
+        return None;
     }
     if leading_zero(field) {
-        return Reading::Unreadable;
+        return None;
     }
     let mut n: u64 = 0;
-    let mut i = 0;
-    while i < field.len() {
-        let b = wide(field[i]);
-        if b < FIRST_DIGIT {
-            return Reading::Unreadable;
+    for &b in field {
+        if !b.is_ascii_digit() {
+            return None;
         }
-        if b > LAST_DIGIT {
-            return Reading::Unreadable;
-        }
-        let digit = b - FIRST_DIGIT;
-        if n > (MOST - digit) / 10 {
-            return Reading::Unreadable;
-        }
-        n = n * 10 + digit;
-        i += 1;
+        n = n.checked_mul(10)?.checked_add(u64::from(b - b'0'))?;
     }
-    Reading::Number(n)
+    Some(n)
 }
 
-// How many digits a number has.
+// How many digits a number has; 0 has one.
 pub fn width(n: u64) -> usize
     ensures { result ≡ width_of n }
 {
-    let mut rest = n;
-    let mut more = 0;
-    while rest > 9 {
-        rest = rest / 10;
-        more += 1;
-    }
-    more + 1
+    n.max(1).ilog10() as usize + 1
 }
 
 // The number at the head of the slice, and how many bytes that took; 0 where there is no room, and nothing is written.
+// Kept: 0 for none: no number has 0 digits, and `Laid` says it of whatever is printed, up to the desk.
 pub fn print(n: u64, out: &mut [u8]) -> usize
     ensures { Laid (decimal n) out.old result out.new }
 {
@@ -92,11 +52,9 @@ pub fn print(n: u64, out: &mut [u8]) -> usize
         return 0;
     }
     let mut rest = n;
-    let mut i = k;
-    while i > 0 {
-        i -= 1;
+    for i in (0..k).rev() {
         out[i] = b'0' + (rest % 10) as u8;
-        rest = rest / 10;
+        rest /= 10;
     }
     k
 }

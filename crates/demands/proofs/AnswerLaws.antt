@@ -8,6 +8,7 @@ use mathlib.Core.Option.{some}
 use mathlib.Core.Path.{◌≡◌, refl, sym, ap, subst, ◌∙◌}
 use native.Mathlib.Omega.{arith}
 use lib.ListN.{length, length-map}
+use Rattle.std.specs.Prelude.{Some}
 use Rattle.record.specs.declared.Record.{Record}
 use Rattle.record.specs.declared.Rule.{Rule}
 use Rattle.record.specs.Standing.{is_dummy, is_proper}
@@ -20,7 +21,6 @@ use Rattle.copies.specs.Copy.{fetched}
 use Rattle.card.specs.declared.Card.{Card}
 use Rattle.request.specs.declared.Request.{Request}
 use Rattle.request.specs.declared.Request.TheVariants.{Insert, Extract, Delete}
-use Rattle.request.specs.declared.Waiting.TheVariants.{For}
 use Rattle.refusal.specs.Refusal.{first_given}
 use Rattle.card.specs.Tables.{parts_of, request_table}
 use Rattle.card.specs.Calls.{list_of}
@@ -87,7 +87,7 @@ module _ (k : Card) (tree : List ℕ) (live : List Record) (r : Ready k tree liv
       λ i. record { sizes = k.sizes; t = k.t; c = count i; least = least i }
 
   -- the request that waits
-  module _ (q : Request) (busy : k.waiting ≡ For q) where
+  module _ (q : Request) (busy : k.waiting ≡ Some q) where
     -- ExtractMin waits only while events are live
     live-extract : q ≡ Extract → 1 ≤ k.c
     live-extract e = omega (arith, (extractable k (subst (λ (a : Request). first_given (request_table k a) ≡ 0) e (waiting-taken k tree live q r busy))).some)
@@ -111,7 +111,7 @@ module _ (k : Card) (tree : List ℕ) (live : List Record) (r : Ready k tree liv
       says_so (Insert key value label first second) e = refl
       says_so Extract e = ap told (sym (least-told (live-extract e)))
       says_so (Delete label stamp) e =
-          ap was_found (delete-found k tree words live r label stamp (busy ∙ ap For e) ∙ sym (has-found label stamp live real))
+          ap was_found (delete-found k tree words live r label stamp (busy ∙ ap Some e) ∙ sym (has-found label stamp live real))
 
       -- a finish answers as the queue
       pub finish-says : says (finished_by k q (left_by k q (shown q))).answer ≡ reply (queue_of live k.t) (asks q)

@@ -3,12 +3,11 @@ use mathlib.Core.Bool.{true}
 use mathlib.Core.List.{List, []}
 use mathlib.Core.Logic.{⊎_elim}
 use mathlib.Core.Path.{◌≡◌, refl, sym, subst}
+use Rattle.std.specs.Prelude.{Option, None}
 use Rattle.path.specs.declared.sizes.Sizes.{Sizes}
 use Rattle.path.specs.Sizes.{in_range}
 use Rattle.lists.specs.BucketList.{laid, counts}
 use Rattle.card.specs.declared.Card.{Card}
-use Rattle.request.specs.declared.Waiting.{Waiting}
-use Rattle.request.specs.declared.Waiting.TheVariants.{Nothing}
 use Rattle.served.proofs.CallLaws.{start-ready}
 use Rattle.demands.specs.Queue.{Queue, empty_queue, next}
 use Rattle.world.specs.World.{World, holding_list, fresh_world, Call, begin, finish, withdraw, find_min, Outcome, step, outcomes}
@@ -19,9 +18,10 @@ use Rattle.demands.proofs.AnswerLaws.{queue_of}
 use Rattle.world.proofs.PromisedLaws.{promised-step, outcomes-carried}
 use Rattle.demands.proofs.StepLaws.{held_for, Holds, Goes, Plays, plays-begin, plays-withdraw, plays-min}
 use Rattle.demands.proofs.FinishLaws.{plays-finish}
+use Rattle.request.specs.declared.Request.{Request}
 
 -- ---- one call on a world that stands
-module _ (s : Sizes) (u : World) (p : Waiting) (q : Queue) (h : Holds s u p q) where
+module _ (s : Sizes) (u : World) (p : Option Request) (q : Queue) (h : Holds s u p q) where
   abbrev k : Card
   k = u.card
 
@@ -54,11 +54,11 @@ module _ (s : Sizes) (u : World) (p : Waiting) (q : Queue) (h : Holds s u p q) w
   plays c =
       let on-world = subst (λ (v : World). Plays k.sizes v k.waiting queue c (step v c)) same-world (each c) in
       let on-queue = subst (λ (x : Queue). Plays k.sizes u k.waiting x c (step u c)) same_queue on-world in
-      let pending = subst (λ (w : Waiting). Plays k.sizes u w q c (step u c)) h.stands.waiting on-queue in
+      let pending = subst (λ (w : Option Request). Plays k.sizes u w q c (step u c)) h.stands.waiting on-queue in
       subst (λ (z : Sizes). Plays z u p q c (step u c)) h.stands.sizes pending
 
 -- ---- a fresh world stands
-pub fresh_holds : (s : Sizes) → in_range s ≡ true → Holds s (fresh_world s) Nothing empty_queue
+pub fresh_holds : (s : Sizes) → in_range s ≡ true → Holds s (fresh_world s) None empty_queue
 fresh_holds s ok =
     record {
       stands = record { sizes = refl; waiting = refl; live = []; ready = start-ready s ok; events = refl; taken = refl };
@@ -69,7 +69,7 @@ fresh_holds s ok =
     }
 
 -- ---- call after call
-pub follow : (s : Sizes) {u : World} {cs : List Call} {os : List Outcome} → Carried u cs os → (p : Waiting) (q : Queue) → Holds s u p q
+pub follow : (s : Sizes) {u : World} {cs : List Call} {os : List Outcome} → Carried u cs os → (p : Option Request) (q : Queue) → Holds s u p q
     → Run s u p q cs os
 follow s none p q h = ended h.stands
 follow s {u} (called {c} {o} {cs} {os} promised rest) p q h =
@@ -81,8 +81,8 @@ follow s {u} (called {c} {o} {cs} {os} promised rest) p q h =
     one.card
 
 pub demand2 : Demand2
-demand2 s ok cs os honest = follow s honest Nothing empty_queue (fresh_holds s ok)
+demand2 s ok cs os honest = follow s honest None empty_queue (fresh_holds s ok)
 
 -- the steps of World.antt are such a run
-pub demand2-steps : (s : Sizes) → in_range s ≡ true → (cs : List Call) → Run s (fresh_world s) Nothing empty_queue cs (outcomes (fresh_world s) cs)
+pub demand2-steps : (s : Sizes) → in_range s ≡ true → (cs : List Call) → Run s (fresh_world s) None empty_queue cs (outcomes (fresh_world s) cs)
 demand2-steps s ok cs = demand2 s ok cs (outcomes (fresh_world s) cs) (outcomes-carried (fresh_world s) cs)

@@ -9,18 +9,15 @@ use native.Mathlib.Omega.{arith}
 use lib.Dec.{ltb}
 use lib.ListN.{length}
 use borrow.Author.Tests.{ltb-true, ltb-false}
+use Rattle.std.specs.Prelude.{Option, None, Some}
 use Rattle.record.specs.declared.Record.{Record}
-use Rattle.path.specs.Path.{number}
 use Rattle.path.proofs.SizesLaws.{tree-range}
 use Rattle.lists.specs.BucketList.{counts, no_buckets, numbers, laid}
 use Rattle.refusal.specs.Refusal.{first_given}
 use Rattle.parts.specs.declared.Parts.{Parts}
 use Rattle.request.specs.declared.Request.{Request}
-use Rattle.request.specs.declared.Waiting.{Waiting}
-use Rattle.request.specs.declared.Waiting.TheVariants.{Nothing, For}
 use Rattle.request.specs.Job.{job_of}
 use Rattle.listing.specs.Listing.{words_asked}
-use Rattle.copies.specs.Copy.{fetched}
 use Rattle.rack.specs.Answers.{any_outside}
 use Rattle.rack.proofs.ListedLaws.{laid-passes}
 use Rattle.card.specs.declared.Card.{Card}
@@ -46,28 +43,28 @@ use Rattle.demands.proofs.StepLaws.{held_for, Worded, Plays, refused_as}
 
 module _ (k : Card) (tree places : List ℕ) (live : List Record) (r : Ready k tree live) where
   -- the world whose list is the one of what waits
-  abbrev world_of : Waiting → World
+  abbrev world_of : Option Request → World
   world_of w = holding_list k tree (laid (held_for k w) places) (counts (held_for k w))
 
   abbrev q : Queue
   q = queue_of live k.t
 
   -- one call on it
-  abbrev Played : Waiting → Call → Outcome → Type 0
+  abbrev Played : Option Request → Call → Outcome → Type 0
   Played w c o = Plays k.sizes (world_of w) w q c o
 
   fine : bad_card k ≡ false
   fine = ready-card k tree live r
 
-  told : (w : Waiting) → k.waiting ≡ w → (words : List ℕ) → first_given (entry_table k (length words)) ≡ refusal_of k.sizes k.root w q (finish words)
+  told : (w : Option Request) → k.waiting ≡ w → (words : List ℕ) → first_given (entry_table k (length words)) ≡ refusal_of k.sizes k.root w q (finish words)
   told w e words =
-      subst (λ (v : Waiting). first_given (entry_table k (length words)) ≡ refusal_of k.sizes k.root v q (finish words)) e
+      subst (λ (v : Option Request). first_given (entry_table k (length words)) ≡ refusal_of k.sizes k.root v q (finish words)) e
       (call-number k tree live r (finish words))
 
-  abbrev Fetches : Waiting → List ℕ → Type 0
+  abbrev Fetches : Option Request → List ℕ → Type 0
   Fetches w words = (rack_number (world_of w) words ≡ 0) ⊎ ((rack_number (world_of w) words ≡ 11) × TooFew k.sizes w q (finish words))
 
-  refused-plays : (w : Waiting) → k.waiting ≡ w → (words : List ℕ) (n : ℕ) → finish_number (world_of w) (shown (world_of w) words) ≡ n → (n ≡ 0 → ⊥)
+  refused-plays : (w : Option Request) → k.waiting ≡ w → (words : List ℕ) (n : ℕ) → finish_number (world_of w) (shown (world_of w) words) ≡ n → (n ≡ 0 → ⊥)
       → first_given (entry_table k (length words)) ≡ n → Fetches w words → Played w (finish words) (step (world_of w) (finish words))
   unfolding step
   refused-plays w e words n given h why fetch =
@@ -78,46 +75,46 @@ module _ (k : Card) (tree places : List ℕ) (live : List Record) (r : Ready k t
       })
 
   -- ---- none waits: 3; no bucket is fetched
-  module _ (idle : k.waiting ≡ Nothing) (words : List ℕ) where
+  module _ (idle : k.waiting ≡ None) (words : List ℕ) where
     none-outside : any_outside k.sizes.h (numbers no_buckets) ≡ false
     unfolding any_outside
     none-outside = refl
 
-    idle-fetch : rack_number (world_of Nothing) words ≡ 0
+    idle-fetch : rack_number (world_of None) words ≡ 0
     idle-fetch =
         laid-passes no_buckets places k.sizes.h k.sizes.z (length tree) (length words) (tree-range k.sizes r.heap.sizes) r.heap.words
         none-outside (omega arith)
 
-    idle-plays : Played Nothing (finish words) (step (world_of Nothing) (finish words))
+    idle-plays : Played None (finish words) (step (world_of None) (finish words))
     idle-plays =
-        let ws = shown (world_of Nothing) words in
-        refused-plays Nothing idle words 3 (entry-decides k ws 3 (sym (none-waits k (length ws) fine idle)) (omega arith)) (omega arith)
+        let ws = shown (world_of None) words in
+        refused-plays None idle words 3 (entry-decides k ws 3 (sym (none-waits k (length ws) fine idle)) (omega arith)) (omega arith)
         (none-waits k (length words) fine idle) (inl idle-fetch)
 
   -- ---- a request waits
-  module _ (a : Request) (busy : k.waiting ≡ For a) (word : WordKey a) where
+  module _ (a : Request) (busy : k.waiting ≡ Some a) (word : WordKey a) where
     abbrev u : World
-    u = world_of (For a)
+    u = world_of (Some a)
 
     -- too few words: 11
-    short-plays : (words : List ℕ) → length words < words_needed k a → Played (For a) (finish words) (step u (finish words))
+    short-plays : (words : List ℕ) → length words < words_needed k a → Played (Some a) (finish words) (step u (finish words))
     short-plays words few =
         let short = rack-short k tree places live r a busy words few in
         let same : shown u words ≡ words = rw short in
         let number = words-short k (length words) a fine busy few in
-        refused-plays (For a) busy words 11 (rw same (entry-decides k words 11 (sym number) (omega arith))) (omega arith) number
+        refused-plays (Some a) busy words 11 (rw same (entry-decides k words 11 (sym number) (omega arith))) (omega arith) number
         (inr (short, subst (λ (p : Parts). length words < words_asked p.sizes (job_of p a)) (parts-told k tree live r) few))
 
     -- else it is done
     module _ (words : List ℕ) (room : words_needed k a ≤ length words) where
-      done-plays : Played (For a) (finish words) (served_by k tree a words)
+      done-plays : Played (Some a) (finish words) (served_by k tree a words)
       done-plays =
           record {
             rack = record { fetch = inl refl; store = refl };
             card = inr (record {
               answers = record {
                 passes = finished-number k a (work_left k tree a words);
-                why = sym (told (For a) busy words) ∙ words-enough k (length words) a fine busy room;
+                why = sym (told (Some a) busy words) ∙ words-enough k (length words) a fine busy room;
                 same = finish-says k tree live r a busy words;
               };
               holds = record {
@@ -137,16 +134,16 @@ module _ (k : Card) (tree places : List ℕ) (live : List Record) (r : Ready k t
             });
           }
 
-      finished-plays : Played (For a) (finish words) (step u (finish words))
+      finished-plays : Played (Some a) (finish words) (step u (finish words))
       unfolding step
-      finished-plays = subst (Played (For a) (finish words)) (sym (finish-ends k tree places live r a busy word words room)) done-plays
+      finished-plays = subst (Played (Some a) (finish words)) (sym (finish-ends k tree places live r a busy word words room)) done-plays
 
-    busy-plays : (words : List ℕ) → Played (For a) (finish words) (step u (finish words))
+    busy-plays : (words : List ℕ) → Played (Some a) (finish words) (step u (finish words))
     busy-plays words = elim (dichotomy (ltb (length words) (words_needed k a))) [
       | inl f ↦ finished-plays words (ltb-false _ _ f)
       | inr t ↦ short-plays words (ltb-true _ _ t)
     ]
 
-  pub plays-finish : (w : Waiting) → k.waiting ≡ w → Worded w → (words : List ℕ) → Played w (finish words) (step (world_of w) (finish words))
-  plays-finish Nothing idle word words = idle-plays idle words
-  plays-finish (For a) busy word words = busy-plays a busy word words
+  pub plays-finish : (w : Option Request) → k.waiting ≡ w → Worded w → (words : List ℕ) → Played w (finish words) (step (world_of w) (finish words))
+  plays-finish None idle word words = idle-plays idle words
+  plays-finish (Some a) busy word words = busy-plays a busy word words

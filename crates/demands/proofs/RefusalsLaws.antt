@@ -6,6 +6,7 @@ use mathlib.Core.List.{List}
 use mathlib.Core.Path.{◌≡◌, refl, ap}
 use native.Mathlib.Omega.{arith}
 use lib.ListN.{length}
+use Rattle.std.specs.Prelude.{Option, None, Some}
 use Rattle.record.specs.declared.Record.{Record}
 use Rattle.path.specs.declared.sizes.Sizes.{Sizes}
 use Rattle.path.specs.Sizes.{leaves_of}
@@ -13,8 +14,7 @@ use Rattle.refusal.specs.Refusal.{first_given}
 use Rattle.refusal.proofs.RefusalLaws.{Rows, none, next, past, first_of, rows_append}
 use Rattle.root.specs.Root.{root_full}
 use Rattle.parts.specs.declared.Parts.{Parts}
-use Rattle.request.specs.declared.Waiting.{Waiting}
-use Rattle.request.specs.declared.Waiting.TheVariants.{Nothing, For}
+use Rattle.request.specs.declared.Request.{Request}
 use Rattle.request.proofs.RequestLaws.{request-rows}
 use Rattle.checks.specs.Checks.{short_rows, call_rows}
 use Rattle.card.specs.declared.Card.{Card}
@@ -27,7 +27,7 @@ use Rattle.demands.specs.Refusals.{parts_told, call_of, refusals, refusal_of}
 use Rattle.demands.proofs.AnswerLaws.{queue_of, parts-told}
 
 -- ---- the numbers that can be given: 2 to 9, 11, and 10 where fewer than N are live and the root is full
-module _ (s : Sizes) (root : List Record) (p : Waiting) (q : Queue) where
+module _ (s : Sizes) (root : List Record) (p : Option Request) (q : Queue) where
   module _ (P : ℕ → Type 0) (none-given : P 0) (low : (n : ℕ) → 2 ≤ n → n ≤ 9 → P n)
       (over : (length q.events ≡ leaves_of s.h → ⊥) → root_full s.r root ≡ true → P 10) (short : P 11) where
     abbrev two : P 2
@@ -36,9 +36,9 @@ module _ (s : Sizes) (root : List Record) (p : Waiting) (q : Queue) where
     abbrev three : P 3
     three = low 3 (omega arith) (omega arith)
 
-    short-rows : (w : Waiting) (room : ℕ) → Rows P (short_rows (parts_told s q) w room)
-    short-rows Nothing room = none
-    short-rows (For r) room = next 11 short none
+    short-rows : (w : Option Request) (room : ℕ) → Rows P (short_rows (parts_told s q) w room)
+    short-rows None room = none
+    short-rows (Some r) room = next 11 short none
 
     refusal-rows : (c : Call) → Rows P (refusals s root p q c)
     unfolding call_rows

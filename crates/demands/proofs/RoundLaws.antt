@@ -11,10 +11,9 @@ use mathlib.Mathlib.Data.Bool.Basic.{dichotomy}
 use native.Mathlib.Omega.{arith}
 use lib.ListN.{length, take, drop, replicate, length-map}
 use lib.Seq.{take_all, drop_at}
+use Rattle.std.specs.Prelude.{Option, None, Some}
 use Rattle.path.specs.declared.sizes.Sizes.{Sizes}
 use Rattle.path.specs.Sizes.{in_range}
-use Rattle.request.specs.declared.Waiting.{Waiting}
-use Rattle.request.specs.declared.Waiting.TheVariants.{Nothing, For}
 use Rattle.answers.specs.Answers.{number_of}
 use Rattle.demands.specs.Queue.{Reference, Event, Queue, Operation, Reply, empty_queue, no_dearer, told, extract_min, reply, next}
 use Rattle.world.specs.World.{World, fresh_world, Call, begin, finish, Outcome, step}
@@ -26,27 +25,28 @@ use Rattle.demands.specs.Rounds.{Round, round, Passes, none, more, answers, want
 use Rattle.demands.proofs.StepLaws.{Holds, Goes, Plays}
 use Rattle.demands.proofs.Demand2.{plays, fresh_holds}
 use Rattle.demands.proofs.SortedLaws.{extracts-sorted}
+use Rattle.request.specs.declared.Request.{Request}
 
 -- a call that is not refused
-pub passed : {s : Sizes} {u : World} {p : Waiting} {q : Queue} {c : Call} {o : Outcome} → Plays s u p q c o → number_of o.answer ≡ 0
+pub passed : {s : Sizes} {u : World} {p : Option Request} {q : Queue} {c : Call} {o : Outcome} → Plays s u p q c o → number_of o.answer ≡ 0
     → Goes s u p q c o
 passed {s} {u} {p} {q} {c} {o} play e =
     ⊎_elim (λ (n : Refuses s u p q c o). absurd (n.some (sym (ap number_of n.given) ∙ e))) (λ (a : Goes s u p q c o). a) play.card
 
 -- nor is one that queue and pending request do not refuse
-pub allowed : {s : Sizes} {u : World} {p : Waiting} {q : Queue} {c : Call} {o : Outcome} → Plays s u p q c o
+pub allowed : {s : Sizes} {u : World} {p : Option Request} {q : Queue} {c : Call} {o : Outcome} → Plays s u p q c o
     → refusal_of s u.card.root p q c ≡ 0 → Goes s u p q c o
 allowed {s} {u} {p} {q} {c} {o} play e =
     ⊎_elim (λ (n : Refuses s u p q c o). absurd (n.some (n.why ∙ e))) (λ (a : Goes s u p q c o). a) play.card
 
-pub rounds-answered : {s : Sizes} {u : World} {js : List Round} → Passes u js → (q : Queue) → Holds s u Nothing q
+pub rounds-answered : {s : Sizes} {u : World} {js : List Round} → Passes u js → (q : Queue) → Holds s u None q
     → answers u js ≡ replies q (map wanted js)
 unfolding answers replies step
 rounds-answered none q h = refl
 rounds-answered {s} {u} (more {j = round {r = w} asked lent words} {js = js} b f rest) q h =
-    let begun = passed (plays s u Nothing q h (begin asked lent)) b in
+    let begun = passed (plays s u None q h (begin asked lent)) b in
     let v = (step u (begin asked lent)).world in
-    let done = passed (plays s v (For w) q begun.holds (finish words)) f in
+    let done = passed (plays s v (Some w) q begun.holds (finish words)) f in
     let now : says (step v (finish words)).answer ≡ reply q (asks w) = done.answers.same in
     let later = rounds-answered rest (next q (asks w)) done.holds in
     λ i. now i ∷ later i

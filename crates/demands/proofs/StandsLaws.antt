@@ -6,12 +6,12 @@ use mathlib.Core.List.{List, Memᴰ}
 use mathlib.Core.Logic.{◌⊎◌, inl, inr, ⊎_elim}
 use mathlib.Core.Path.{◌≡◌, sym, ap, ◌∙◌, subst}
 use lib.ListN.{length, length-map}
+use Rattle.std.specs.Prelude.{Option}
 use Rattle.record.specs.declared.Bucket.{Bucket}
 use Rattle.record.specs.declared.Record.{Record}
 use Rattle.record.specs.Standing.{dummy, is_dummy}
 use Rattle.record.proofs.StandingLaws.{is-dummy}
 use Rattle.path.specs.declared.sizes.Sizes.{Sizes}
-use Rattle.request.specs.declared.Waiting.{Waiting}
 use Rattle.parts.specs.Parts.{rule_of}
 use Rattle.card.specs.Tables.{parts_of}
 use Rattle.tree.specs.Path.{OnPath}
@@ -24,6 +24,7 @@ use Rattle.world.specs.World.{World}
 use Rattle.demands.specs.Says.{event_of}
 use Rattle.demands.specs.Demand2.{Stands}
 use Rattle.demands.specs.Plainly.{buckets, Slot, in_slot, Plainly}
+use Rattle.request.specs.declared.Request.{Request}
 
 -- an event has all four numbers of its record
 event-one : (x y : Record) → event_of x ≡ event_of y → x ≡ y
@@ -34,7 +35,7 @@ event-one x y e =
     let stamp = ap (λ (a : Event). a.ref.stamp) e in
     λ i. record { key = key i; value = value i; label = record { 0 = label i }; stamp = record { 0 = stamp i } }
 
-module _ (z : Sizes) (u : World) (p : Waiting) (q : Queue) (s : Stands z u p q) where
+module _ (z : Sizes) (u : World) (p : Option Request) (q : Queue) (s : Stands z u p q) where
   abbrev live : List Record
   live = s.live
 

@@ -9,14 +9,13 @@ use native.Mathlib.Omega.{arith}
 use lib.Dec.{eqb}
 use lib.ListN.{length}
 use borrow.Author.Tests.{eqb-true, eqb-false}
+use Rattle.std.specs.Prelude.{Option, None, Some}
 use Rattle.record.specs.declared.Record.{Record}
 use Rattle.path.specs.declared.sizes.Sizes.{Sizes}
 use Rattle.lists.specs.BucketList.{BucketList, no_buckets, laid, counts}
 use Rattle.refusal.specs.Refusal.{first_given}
 use Rattle.refusal.proofs.RefusalLaws.{none-given}
 use Rattle.card.specs.declared.Card.{Card}
-use Rattle.request.specs.declared.Waiting.{Waiting}
-use Rattle.request.specs.declared.Waiting.TheVariants.{Nothing, For}
 use Rattle.request.specs.declared.Request.{Request}
 use Rattle.answers.specs.declared.Answer.{Answer}
 use Rattle.answers.specs.declared.Answer.TheVariants.{Refused}
@@ -40,22 +39,22 @@ use Rattle.demands.proofs.RefusalsLaws.{refusal-most, call-number}
 
 -- ---- what holds between two calls, and what one call keeps
 -- a world that stands, and the list that is held is the one of the request that waits
-abbrev pub held_for : Card → Waiting → BucketList
-held_for k Nothing = no_buckets
-held_for k (For r) = list_of k r
+abbrev pub held_for : Card → Option Request → BucketList
+held_for k None = no_buckets
+held_for k (Some r) = list_of k r
 
-abbrev pub Worded : Waiting → Type 0
-Worded Nothing = Unit {0}
-Worded (For r) = WordKey r
+abbrev pub Worded : Option Request → Type 0
+Worded None = Unit {0}
+Worded (Some r) = WordKey r
 
-pub record Holds (s : Sizes) (u : World) (p : Waiting) (q : Queue) : Type 0 where
+pub record Holds (s : Sizes) (u : World) (p : Option Request) (q : Queue) : Type 0 where
   pub stands : Stands s u p q
   pub word : Worded u.card.waiting
   pub places : List ℕ
   pub list : u.list ≡ laid (held_for u.card u.card.waiting) places
   pub counts : u.counts ≡ counts (held_for u.card u.card.waiting)
 
-module _ (s : Sizes) (u : World) (p : Waiting) (q : Queue) (c : Call) (o : Outcome) where
+module _ (s : Sizes) (u : World) (p : Option Request) (q : Queue) (c : Call) (o : Outcome) where
   -- answered, and the world holds again
   pub record Goes : Type 0 where
     pub answers : Answers s u p q c o
@@ -66,11 +65,11 @@ module _ (s : Sizes) (u : World) (p : Waiting) (q : Queue) (c : Call) (o : Outco
     pub card : Refuses s u p q c o ⊎ Goes
 
 -- ---- a call of the card alone
-quiet-rack : (s : Sizes) (p : Waiting) (q : Queue) (v : World) (c : Call) (a : Answer) → RackPasses s p q c (quiet v a)
+quiet-rack : (s : Sizes) (p : Option Request) (q : Queue) (v : World) (c : Call) (a : Answer) → RackPasses s p q c (quiet v a)
 quiet-rack s p q v c a = record { fetch = inl refl; store = refl }
 
 -- refused for what queue and pending request tell
-pub refused_as : (s : Sizes) (u : World) (p : Waiting) (q : Queue) (c : Call) (o : Outcome) (n : ℕ) → o.answer ≡ Refused n → o.world ≡ u
+pub refused_as : (s : Sizes) (u : World) (p : Option Request) (q : Queue) (c : Call) (o : Outcome) (n : ℕ) → o.answer ≡ Refused n → o.world ≡ u
     → (n ≡ 0 → ⊥) → n ≡ refusal_of s u.card.root p q c → Refuses s u p q c o
 refused_as s u p q c o n given unchanged h why =
     let most = refusal-most s u.card.root p q c in
@@ -84,7 +83,7 @@ refused_as s u p q c o n given unchanged h why =
       not_bad_card = λ e. omega (arith, most, why, e);
     }
 
-plays-refused : (s : Sizes) (u : World) (p : Waiting) (q : Queue) (c : Call) (n : ℕ) → (n ≡ 0 → ⊥) → n ≡ refusal_of s u.card.root p q c
+plays-refused : (s : Sizes) (u : World) (p : Option Request) (q : Queue) (c : Call) (n : ℕ) → (n ≡ 0 → ⊥) → n ≡ refusal_of s u.card.root p q c
     → Plays s u p q c (quiet u (Refused n))
 plays-refused s u p q c n h why =
     record { rack = quiet-rack s p q u c (Refused n); card = inl (refused_as s u p q c (quiet u (Refused n)) n refl refl h why) }
@@ -134,7 +133,7 @@ module _ (k : Card) (tree places : List ℕ) (live : List Record) (r : Ready k t
             (refused_with (begin asked lent) n (eqb-false n 0 f) (call-number k tree live r (begin asked lent)))
         | inr t ↦
             let a = accepted k w (length lent) (eqb-true n 0 t) in
-            let same = sym (same-list (with_waiting k (For w)) k w refl refl) in
+            let same = sym (same-list (with_waiting k (Some w)) k w refl refl) in
             subst (Played (begin asked lent))
             (begin-done u w lent (eqb-true n 0 t))
             (record {

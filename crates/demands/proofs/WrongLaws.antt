@@ -8,6 +8,7 @@ use mathlib.Core.Path.{◌≡◌, refl, sym, ap, subst, ◌∙◌}
 use native.Mathlib.Decide.{dec_lt}
 use native.Mathlib.Omega.{arith}
 use lib.ListN.{length, get_or}
+use Rattle.std.specs.Prelude.{Option, None, Some}
 use Rattle.record.specs.declared.Bucket.{Bucket}
 use Rattle.record.specs.declared.Record.{Record}
 use Rattle.record.specs.Many.{every}
@@ -18,9 +19,8 @@ use Rattle.path.specs.Path.{path_bucket, sibling_of, up_from, path}
 use Rattle.lists.specs.BucketList.{pair_list, path_list}
 use Rattle.refusal.specs.Refusal.{first_given}
 use Rattle.root.specs.Root.{root_full}
+use Rattle.request.specs.declared.Request.{Request}
 use Rattle.request.specs.declared.Request.TheVariants.{Extract}
-use Rattle.request.specs.declared.Waiting.{Waiting}
-use Rattle.request.specs.declared.Waiting.TheVariants.{Nothing, For}
 use Rattle.request.specs.Tables.{insert_rows, extract_rows, request_rows, waits}
 use Rattle.checks.specs.Checks.{call_rows}
 use Rattle.answers.specs.declared.Answer.{Answer}
@@ -36,7 +36,7 @@ use Rattle.demands.proofs.StandsLaws.{stands-plainly}
 use Rattle.demands.proofs.Demand2.{demand2-steps}
 
 -- ---- the first call of a run
-module _ (s : Sizes) (u : World) (p : Waiting) (q : Queue) where
+module _ (s : Sizes) (u : World) (p : Option Request) (q : Queue) where
   pub record First (c : Call) (o : Outcome) (cs : List Call) (os : List Outcome) : Type 0 where
     pub stands : Stands s u p q
     pub goes :
@@ -47,13 +47,13 @@ module _ (s : Sizes) (u : World) (p : Waiting) (q : Queue) where
   FirstOf (c ∷ cs) [] = ⊥
   FirstOf (c ∷ cs) (o ∷ os) = First c o cs os
 
-first : {s : Sizes} {u : World} {p : Waiting} {q : Queue} {cs : List Call} {os : List Outcome} → Run s u p q cs os → FirstOf s u p q cs os
+first : {s : Sizes} {u : World} {p : Option Request} {q : Queue} {cs : List Call} {os : List Outcome} → Run s u p q cs os → FirstOf s u p q cs os
 first (ended h) = h
 first (refused h r n rest) = record { stands = h; goes = inl n }
 first (answered h r a rest) = record { stands = h; goes = inr (a, rest) }
 
 -- where neither queue nor pending request tells a refusal, the call is answered
-module _ {s : Sizes} {u : World} {p : Waiting} {q : Queue} {c : Call} {o : Outcome} {cs : List Call} {os : List Outcome}
+module _ {s : Sizes} {u : World} {p : Option Request} {q : Queue} {c : Call} {o : Outcome} {cs : List Call} {os : List Outcome}
     (none : refusal_of s u.card.root p q c ≡ 0) (f : First s u p q c o cs os) where
   answers : Answers s u p q c o × Run s o.world (pending_after p c) (next q (operation_of p c)) cs os
   answers = ⊎_elim (λ (n : Refuses s u p q c o). absurd (n.some (n.why ∙ none))) (λ a. a) f.goes
@@ -62,10 +62,10 @@ module _ {s : Sizes} {u : World} {p : Waiting} {q : Queue} {c : Call} {o : Outco
 abbrev fresh : World
 fresh = fresh_world table_sizes
 
-abbrev pending : Waiting
-pending = pending_after Nothing first_insert
+abbrev pending : Option Request
+pending = pending_after None first_insert
 
-begin-none : refusal_of table_sizes fresh.card.root Nothing empty_queue first_insert ≡ 0
+begin-none : refusal_of table_sizes fresh.card.root None empty_queue first_insert ≡ 0
 unfolding every call_rows request_rows insert_rows waits first_given root_full is_dummy same pair_list path_bucket sibling_of path up_from
 begin-none = refl
 
@@ -114,7 +114,7 @@ past (x ∷ xs) zero m = absurd (omega arith)
 past (x ∷ xs) (suc i) m = past xs i (omega arith)
 
 -- where no event is live all slots are dummies
-all-dummies : (u : World) (p : Waiting) (q : Queue) → q.events ≡ [] → Stands table_sizes u p q → (b : Bucket) → InTree table_sizes.h b → (i : ℕ)
+all-dummies : (u : World) (p : Option Request) (q : Queue) → q.events ≡ [] → Stands table_sizes u p q → (b : Bucket) → InTree table_sizes.h b → (i : ℕ)
     → in_slot u b i ≡ dummy
 all-dummies u p q none h b within i =
     let plain = stands-plainly table_sizes u p q h in
@@ -127,17 +127,17 @@ all-dummies u p q none h b within i =
       | no n ↦ past (buckets u b).slots i (omega arith)
     ]
 
-extract-none : (root : List Record) → refusal_of table_sizes root Nothing held (begins extract) ≡ 0
+extract-none : (root : List Record) → refusal_of table_sizes root None held (begins extract) ≡ 0
 unfolding call_rows request_rows extract_rows waits first_given least_event path_list path_bucket sibling_of path up_from
 extract-none root = refl
 
-removal-none : (root : List Record) → refusal_of table_sizes root (For Extract) held ends ≡ 0
+removal-none : (root : List Record) → refusal_of table_sizes root (Some Extract) held ends ≡ 0
 unfolding call_rows waits first_given least_event path_list path_bucket sibling_of path up_from
 removal-none root = refl
 
 -- the one event is gone from the queue
 abbrev emptied : Queue
-emptied = next held (operation_of (For Extract) ends)
+emptied = next held (operation_of (Some Extract) ends)
 
 gone : emptied.events ≡ []
 unfolding least_event taken_out
@@ -155,10 +155,10 @@ finishes-idly (o ∷ o₂ ∷ o₃ ∷ o₄ ∷ os) v run =
     let before = (first asked.1).stands in
     let removed = answers (removal-none o₃.world.card.root) (first asked.1) in
     let after = first removed.1 in
-    let (b, i, slot, is, on) = (stands-plainly table_sizes o₃.world (For Extract) held before).seated _ (Memᴰ.head refl) in
+    let (b, i, slot, is, on) = (stands-plainly table_sizes o₃.world (Some Extract) held before).seated _ (Memᴰ.head refl) in
     let within = subst (λ (s : Sizes). InTree s.h b) before.sizes slot.within in
     let stays = v.1.1.1.0 (ap removes before.waiting) b i in
-    let empty = sym stays ∙ all-dummies o₄.world Nothing emptied gone after b within i in
+    let empty = sym stays ∙ all-dummies o₄.world None emptied gone after b within i in
     let key : dummy_key ≡ 7 = ap (λ (r : Record). r.key) (sym empty) ∙ ap (λ (e : Event). e.key) is in
     absurd (omega arith)
 

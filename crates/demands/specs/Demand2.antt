@@ -2,12 +2,11 @@
 -- answered as the plain queue answers it, if the rack is honest (`HonestRack`). Proved as `demand2` in proofs/Demand2.antt.
 -- What a run is judged by is worked out from the sizes and the calls alone, never from the card: the pending request p and the
 -- queue q. Only Overflow asks the card, for its root's slots. Assumes nothing.
-use Rattle.std.specs.Prelude.{ℕ, ◌<◌, true, List, [], ◌∷◌, map, ◌⊎◌, ◌≡◌, length}
+use Rattle.std.specs.Prelude.{ℕ, ◌<◌, true, List, [], ◌∷◌, map, ◌⊎◌, ◌≡◌, length, Option, None, Some}
 use Rattle.record.specs.declared.Record.{Record}
 use Rattle.path.specs.declared.sizes.Sizes.{Sizes}
 use Rattle.path.specs.Sizes.{in_range}
-use Rattle.request.specs.declared.Waiting.{Waiting}
-use Rattle.request.specs.declared.Waiting.TheVariants.{Nothing, For}
+use Rattle.request.specs.declared.Request.{Request}
 use Rattle.request.specs.Job.{job_of}
 use Rattle.listing.specs.Listing.{words_asked}
 use Rattle.answers.specs.declared.Answer.TheVariants.{Refused}
@@ -23,7 +22,7 @@ use Rattle.world.specs.Promised.{Carried}
 -- The card has the sizes that it was started with, and the pending request waits on it. Card and tree hold a good heap (`Ready`,
 -- served/specs/Ready.antt: each live event in exactly one slot, on the path of its label, no slot with anything else but the
 -- dummy, every least record true, c the number of live events) of the queue's events.
-pub record Stands (s : Sizes) (u : World) (p : Waiting) (q : Queue) : Type 0 where
+pub record Stands (s : Sizes) (u : World) (p : Option Request) (q : Queue) : Type 0 where
   pub sizes : u.card.sizes ≡ s
   pub waiting : u.card.waiting ≡ p
   pub live : List Record
@@ -32,7 +31,7 @@ pub record Stands (s : Sizes) (u : World) (p : Waiting) (q : Queue) : Type 0 whe
   pub taken : u.card.t ≡ q.taken
 
 -- ---- one call
-module _ (s : Sizes) (u : World) (p : Waiting) (q : Queue) (c : Call) (o : Outcome) where
+module _ (s : Sizes) (u : World) (p : Option Request) (q : Queue) (c : Call) (o : Outcome) where
   -- A refused call has the number that queue and pending request tell, so neither 12 nor 13, and leaves all as it was.
   pub record Refuses : Type 0 where
     pub number : ℕ
@@ -50,27 +49,27 @@ module _ (s : Sizes) (u : World) (p : Waiting) (q : Queue) (c : Call) (o : Outco
     pub same : says o.answer ≡ reply q (operation_of p c)
 
 -- the words lent to a finish are fewer than the pending request needs
-abbrev pub FewFor : Sizes → Waiting → Queue → ℕ → Type 0
-FewFor s Nothing q room = ⊥
-FewFor s (For r) q room = room < words_asked s (job_of (parts_told s q) r)
+abbrev pub FewFor : Sizes → Option Request → Queue → ℕ → Type 0
+FewFor s None q room = ⊥
+FewFor s (Some r) q room = room < words_asked s (job_of (parts_told s q) r)
 
-abbrev pub TooFew : Sizes → Waiting → Queue → Call → Type 0
+abbrev pub TooFew : Sizes → Option Request → Queue → Call → Type 0
 TooFew s p q (begin asked places) = ⊥
 TooFew s p q (finish words) = FewFor s p q (length words)
 TooFew s p q withdraw = ⊥
 TooFew s p q find_min = ⊥
 
 -- the rack refuses neither with 1 nor with 14, and with 11 for too few words alone
-pub record RackPasses (s : Sizes) (p : Waiting) (q : Queue) (c : Call) (o : Outcome) : Type 0 where
+pub record RackPasses (s : Sizes) (p : Option Request) (q : Queue) (c : Call) (o : Outcome) : Type 0 where
   pub fetch : (o.fetch ≡ 0) ⊎ ((o.fetch ≡ 11) × TooFew s p q c)
   pub store : o.store ≡ 0
 
 -- ---- every list of calls, one after the other, with what comes of each
-pub data Run (s : Sizes) : World → Waiting → Queue → List Call → List Outcome → Type 0 where
-  ended : {u : World} {p : Waiting} {q : Queue} → Stands s u p q → Run s u p q [] []
-  refused : {u : World} {p : Waiting} {q : Queue} {c : Call} {o : Outcome} {cs : List Call} {os : List Outcome} → Stands s u p q
+pub data Run (s : Sizes) : World → Option Request → Queue → List Call → List Outcome → Type 0 where
+  ended : {u : World} {p : Option Request} {q : Queue} → Stands s u p q → Run s u p q [] []
+  refused : {u : World} {p : Option Request} {q : Queue} {c : Call} {o : Outcome} {cs : List Call} {os : List Outcome} → Stands s u p q
       → RackPasses s p q c o → Refuses s u p q c o → Run s o.world p q cs os → Run s u p q (c ∷ cs) (o ∷ os)
-  answered : {u : World} {p : Waiting} {q : Queue} {c : Call} {o : Outcome} {cs : List Call} {os : List Outcome} → Stands s u p q
+  answered : {u : World} {p : Option Request} {q : Queue} {c : Call} {o : Outcome} {cs : List Call} {os : List Outcome} → Stands s u p q
       → RackPasses s p q c o → Answers s u p q c o → Run s o.world (pending_after p c) (next q (operation_of p c)) cs os
       → Run s u p q (c ∷ cs) (o ∷ os)
 
@@ -84,4 +83,4 @@ HonestRack s cs os = Carried (fresh_world s) cs os
 abbrev pub Demand2 : Type 0
 Demand2 =
     (s : Sizes) → in_range s ≡ true → (cs : List Call) (os : List Outcome) → HonestRack s cs os
-    → Run s (fresh_world s) Nothing empty_queue cs os
+    → Run s (fresh_world s) None empty_queue cs os

@@ -1,22 +1,22 @@
 -- When a call is refused, told by the sizes, the pending request and the plain queue: document 01, "Refusal numbers", without 12
 -- and 13. The rows are those of checks/specs/Checks.antt, on the parts that the queue tells of a card. Assumes nothing.
-use Rattle.std.specs.Prelude.{ℕ, false, List, length}
-use Rattle.std.proofs.Math.Option.{Option, none, some}
+use Rattle.std.specs.Prelude.{ℕ, false, List, length, Option}
+use Rattle.std.proofs.Math.Option.{Option as Maybe, none, some}
 use Rattle.record.specs.declared.Record.{Record}
 use Rattle.record.specs.Standing.{dummy}
 use Rattle.record.specs.Words.{record4}
 use Rattle.path.specs.declared.sizes.Sizes.{Sizes}
 use Rattle.refusal.specs.Refusal.{Refusal, first_given}
 use Rattle.parts.specs.declared.Parts.{Parts}
-use Rattle.request.specs.declared.Waiting.{Waiting}
 use Rattle.checks.specs.declared.Call.{Call as CardCall}
 use Rattle.checks.specs.declared.Call.TheVariants.{Min, Withdraw, Begin, Finish}
 use Rattle.checks.specs.Checks.{call_rows}
 use Rattle.demands.specs.Queue.{Event, Queue, least_event}
 use Rattle.world.specs.World.{Call, begin, finish, withdraw, find_min}
+use Rattle.request.specs.declared.Request.{Request}
 
 -- the record of an event; the dummy for none
-abbrev pub record_told : Option Event → Record
+abbrev pub record_told : Maybe Event → Record
 record_told none = dummy
 record_told (some e) = record4 e.key e.value e.ref.label e.ref.stamp
 
@@ -32,7 +32,7 @@ call_of withdraw = Withdraw
 call_of find_min = Min
 
 -- Of the card only the root's slots count, for "Insert, every root slot real".
-module _ (s : Sizes) (root : List Record) (p : Waiting) (q : Queue) where
+module _ (s : Sizes) (root : List Record) (p : Option Request) (q : Queue) where
   abbrev pub refusals : Call → List Refusal
   refusals c = call_rows false (parts_told s q) root p (call_of c)
 

@@ -1,10 +1,9 @@
 -- Card and plain queue in each other's words: what a call asks of the queue, and what an answer says. Assumes nothing.
+use Rattle.std.specs.Prelude.{Option, None, Some}
 use Rattle.std.proofs.Math.Option.{some}
 use Rattle.record.specs.declared.Leaf.{Leaf}
 use Rattle.record.specs.declared.Stamp.{Stamp}
 use Rattle.record.specs.declared.Record.{Record}
-use Rattle.request.specs.declared.Waiting.{Waiting}
-use Rattle.request.specs.declared.Waiting.TheVariants.{Nothing, For}
 use Rattle.request.specs.declared.Request.{Request}
 use Rattle.request.specs.declared.Request.TheVariants.{Insert, Extract, Delete}
 use Rattle.answers.specs.declared.Answer.{Answer}
@@ -24,20 +23,20 @@ asks (Insert key value label first second) = insert key value label.0
 asks Extract = extract_min
 asks (Delete label stamp) = delete (ref_of label stamp)
 
-abbrev pub waiting_asks : Waiting → Operation
-waiting_asks Nothing = nothing
-waiting_asks (For r) = asks r
+abbrev pub waiting_asks : Option Request → Operation
+waiting_asks None = nothing
+waiting_asks (Some r) = asks r
 
 -- The pending request, told by the calls alone: the one that was begun and is neither finished nor withdrawn. What a call that is
 -- answered makes of it.
-abbrev pub pending_after : Waiting → Call → Waiting
-pending_after p (begin {r} asked places) = For r
-pending_after p (finish words) = Nothing
-pending_after p withdraw = Nothing
+abbrev pub pending_after : Option Request → Call → Option Request
+pending_after p (begin {r} asked places) = Some r
+pending_after p (finish words) = None
+pending_after p withdraw = None
 pending_after p find_min = p
 
 -- what a call asks of the queue: a finish the pending request; a begin and a withdraw nothing
-abbrev pub operation_of : Waiting → Call → Operation
+abbrev pub operation_of : Option Request → Call → Operation
 operation_of p (begin asked places) = nothing
 operation_of p (finish words) = waiting_asks p
 operation_of p withdraw = nothing
@@ -46,7 +45,7 @@ operation_of p find_min = find_least
 -- what an answer says, words moved and lists aside
 abbrev pub says : Answer → Reply
 says Started = silent
-says (Listed whole least) = silent
+says (Listed n) = silent
 says (Least r words) = told (some (event_of r))
 says Withdrawn = silent
 says (Inserted label stamp words) = referred (ref_of label stamp)

@@ -1,7 +1,7 @@
 -- The input of document 01's "Input, then whole output" as calls, and the wrong versions that it names: "A version that refuses all calls,
 -- gives one constant answer, or does nothing breaks demand 2 with the table above. One that begins well but finishes without working
 -- breaks demand 2 at the first removal." Each is proved to break it in proofs/WrongLaws.antt. Assumes nothing.
-use Rattle.std.specs.Prelude.{ℕ, ◌≤◌, Bool, true, false, List, [], ◌∷◌, ◌≡◌, replicate}
+use Rattle.std.specs.Prelude.{ℕ, ◌≤◌, Bool, true, false, List, [], ◌∷◌, ◌≡◌, replicate, Option, None, Some}
 use Rattle.std.proofs.Common.{arith}
 use Rattle.record.specs.declared.Bucket.{Bucket}
 use Rattle.record.specs.declared.Leaf.{Leaf}
@@ -10,8 +10,6 @@ use Rattle.path.specs.declared.sizes.Sizes.{Sizes}
 use Rattle.path.specs.Sizes.{sizes_of}
 use Rattle.request.specs.declared.Request.{Request}
 use Rattle.request.specs.declared.Request.TheVariants.{Insert, Extract, Delete}
-use Rattle.request.specs.declared.Waiting.{Waiting}
-use Rattle.request.specs.declared.Waiting.TheVariants.{Nothing, For}
 use Rattle.answers.specs.declared.Answer.{Answer}
 use Rattle.answers.specs.Answers.{number_of}
 use Rattle.world.specs.World.{World, fresh_world, Asked, insert, extract, delete, Call, begin, finish, withdraw, find_min, Outcome}
@@ -69,11 +67,11 @@ abbrev pub SlotsStay : World → World → Type 0
 SlotsStay u after = (b : Bucket) (i : ℕ) → in_slot after b i ≡ in_slot u b i
 
 -- whether a removal waits
-abbrev pub removes : Waiting → Bool
-removes Nothing = false
-removes (For (Insert key value label first second)) = false
-removes (For Extract) = true
-removes (For (Delete label stamp)) = true
+abbrev pub removes : Option Request → Bool
+removes None = false
+removes (Some (Insert key value label first second)) = false
+removes (Some Extract) = true
+removes (Some (Delete label stamp)) = true
 
 -- whatever its Inserts do, the finish of a removal moves nothing
 abbrev pub FinishesIdly : Version
@@ -92,7 +90,7 @@ Comes v u (c ∷ cs) (o ∷ os) = v u c o × Comes v o.world cs os
 -- no outcomes of these calls in such a version are a run of demand 2
 abbrev pub Breaks : Version → List Call → Type 0
 Breaks v cs =
-    (os : List Outcome) → Comes v (fresh_world table_sizes) cs os → Run table_sizes (fresh_world table_sizes) Nothing empty_queue cs os → ⊥
+    (os : List Outcome) → Comes v (fresh_world table_sizes) cs os → Run table_sizes (fresh_world table_sizes) None empty_queue cs os → ⊥
 
 -- the first Insert and the first removal
 abbrev pub up_to_removal : List Call

@@ -21,13 +21,12 @@ const ROOM: usize = 4096;
 fn pass(rt: &impl Print, sitting: Sitting, tree: &mut [u64], chunk: &[u8]) -> io::Result<Sitting> {
     let mut out = [0u8; ROOM];
     let mut after = sitting;
-    let mut from = 0;
-    while from < chunk.len() {
-        let fed = sitting::feed(after, tree, &chunk[from..], &mut out);
-        let written = fed.written;
-        rt.write_all(&out[..written])?;
+    let mut rest = chunk;
+    while rest.len() > 0 {
+        let fed = sitting::feed(after, tree, rest, &mut out);
+        rt.write_all(&out[..fed.written])?;
         after = fed.sitting;
-        from += fed.taken;
+        rest = &rest[fed.taken..];
     }
     Ok(after)
 }

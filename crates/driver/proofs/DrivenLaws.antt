@@ -20,8 +20,9 @@ use Rattle.image.specs.Reading.{card_in, odd_kind}
 use Rattle.image.proofs.ImageLaws.{card-image, image-even}
 use Rattle.held.specs.Held.{no_card, held_in}
 use Rattle.held.proofs.HeldLaws.{none-called, none-finishes, held-odd, held-even}
-use Rattle.rack.specs.declared.Answer.{Answer}
-use Rattle.rack.specs.Answers.{answer_number}
+use Rattle.std.specs.Prelude.{Result, ⊤}
+use Rattle.refusal.specs.declared.Reason.{Reason}
+use Rattle.refusal.specs.Reason.{refusal_in}
 use Rattle.rack.specs.Promises.{Answers}
 use Rattle.told.specs.Told.{Said, Answering, Called, Settled, Zeroed}
 use Rattle.told.proofs.ToldLaws.{answering, answered, called, card-left}
@@ -107,8 +108,8 @@ held-finish ws fetched k d n ws' told' after e f s =
 
 -- ---- a rack's call
 pub racked :
-    (refusal : ℕ) (due before : List ℕ) (a : Answer) (n : ℕ) (told' after : List ℕ) → Answers refusal due before a after
-    → Zeroed (answer_number a) n told' → Racked refusal due before n told' after
+    (refusal : ℕ) (due before : List ℕ) (a : Result ⊤ Reason) (n : ℕ) (told' after : List ℕ) → Answers refusal due before a after
+    → Zeroed (refusal_in a) n told' → Racked refusal due before n told' after
 racked refusal due before a n told' after p t = record { call = rw p.number at t; lent = p.lent }
 
 -- ---- the entrance equals the first: on a card's image, a call leaves the number, the six values and the image of the card that

@@ -5,6 +5,8 @@
 // for a refusal. A refused call leaves card and every lent slice as they were. `driver_c` exports the calls to C, under the same names;
 // the header for C is nwidarap.h in this crate's folder. Stands on `record`, `path`, `lists`, `refusal`, `request`, `answers`, `settle`,
 // `card`, `image`, `copies`, `rack`, `held` and `told`.
+//
+// Kept: numbers, lengths and pointers as parameters, and a number as the answer: the interface of C has no other.
 #![tactic(auto)]
 
 mod requests;

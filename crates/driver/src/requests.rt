@@ -54,8 +54,8 @@ pub fn nwidarap_insert(
     ensures { BeginsAt (Request.Insert key value (record { 0 = label }) (record { 0 = first }) (record { 0 = second })) card.old list.old result card.new answer.new list.new }
 {
     let request = Request::Insert {
-        key: key,
-        value: value,
+        key,
+        value,
         label: Leaf(label),
         first: Leaf(first),
         second: Leaf(second),

@@ -1,6 +1,8 @@
 // The entrance for drivers in C: the calls of `driver`, exported under the same names. A library exports nothing to C, so a static library
 // over it does: each export has the clause of the call that it makes, word for word. `tools/archive` builds the archive; the header is
 // crates/driver/nwidarap.h. Stands on `driver`.
+//
+// Kept: numbers, lengths and pointers as parameters, and a number as the answer: the interface of C has no other.
 #![tactic(auto)]
 
 ghost use Rattle.path.specs.Sizes.{sizes_of};

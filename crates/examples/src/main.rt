@@ -3,7 +3,6 @@
 // definition is the paper's.
 #![tactic(auto)]
 
-mod line;
 mod paths;
 mod records;
 

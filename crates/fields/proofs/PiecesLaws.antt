@@ -1,16 +1,37 @@
 -- Bytes parted at a byte: the first piece, the pieces behind it, and bytes compared. Assumes nothing.
 use Prim.Native.Nat.{ℕ, suc, ◌+◌, ◌≤◌, ◌<◌}
-use mathlib.Core.Bool.{true, false, cond, ◌&&◌, and-false}
+use mathlib.Core.Bool.{true, false, cond, ◌&&◌, not}
 use mathlib.Core.List.{List, [], ◌∷◌}
-use mathlib.Core.Path.{◌≡◌, refl, ap}
+use mathlib.Core.Path.{◌≡◌, refl, sym, ap, ◌∙◌}
 use native.Mathlib.Omega.{arith}
 use native.Mathlib.Numerals.{add-one}
-use lib.Dec.{eqb}
-use lib.ListN.{length, get_or, take, drop, drop_of_length-le}
-use lib.Seq.{drop-cons, drop-drop}
-use borrow.Author.Tests.{eq-eqb, ne_eqb}
+use lib.Dec.{eqb, ltb}
+use lib.ListN.{length, take, drop, length-drop, drop_of_length-le}
+use lib.Pointwise.{pointwise}
+use lib.Seq.{drop-cons, drop-drop, take_all}
+use Rattle.std.specs.Prelude.{◌==◌, nat_eq, position, unwrap_or, Option, Some, None}
+use Rattle.std.specs.Slice.{IsGetRangeResult}
+use Rattle.std.proofs.Common.{Bor, inl, inr}
+use Rattle.std.specs.List.{position_or_len}
+use borrow.Author.Tests.{ltb-false}
 use Rattle.fields.specs.Pieces.{onto, pieces, fields_of, before, same_bytes}
 use Rattle.fields.specs.Behind.{behind}
+
+-- ---- what `get` gives, or nothing, is what stands from `from` on
+rest-got :
+    (bytes : List ℕ) (from : ℕ) (got : Option (Bor (List ℕ))) (none : Bor (List ℕ)) → none.now ≡ []
+    → IsGetRangeResult bytes from (length bytes) got → (unwrap_or got none).now ≡ drop from bytes
+rest-got bytes from None none e p = elim p.0 [
+  | inl l ↦ e ∙ sym (drop_of_length-le bytes {i = from} (omega arith))
+  | inr l ↦ absurd (omega arith)
+]
+rest-got bytes from (Some part) none e p =
+    p.0.2 ∙ take_all _ (drop from bytes) (omega (arith, length-drop from bytes))
+
+pub rest-of :
+    (bytes : List ℕ) (from : ℕ) (got : Option (Bor (List ℕ))) (none rest : Bor (List ℕ))
+    → IsGetRangeResult bytes from (length bytes) got → rest ≡ unwrap_or got none → none.now ≡ [] → rest.now ≡ drop from bytes
+rest-of bytes from got none rest p r e = ap (λ (b : Bor (List ℕ)). b.now) r ∙ rest-got bytes from got none e p
 
 -- ---- what stands before the first byte `at`
 module _ (at : ℕ) where
@@ -30,21 +51,20 @@ module _ (at : ℕ) where
     | false ↦ ap (λ (l : List ℕ). b ∷ l) (before_head bs)
   ])
 
-  -- read from place i on
-  module _ (bytes : List ℕ) (i : ℕ) where
-    pub before-stops : i < length bytes → get_or bytes i 0 ≡ at → length (before at (drop i bytes)) ≡ 0
-    unfolding before
-    before-stops l e = rw (drop-cons bytes i 0 l, eq-eqb (get_or bytes i 0) at e)
+  -- the library's words for where it ends
+  before-counted : (bs : List ℕ) → position_or_len (λ b. b == at) bs ≡ length (before at bs)
+  unfolding before
+  before-counted [] = refl
+  before-counted (b ∷ bs) = (elim (eqb b at) as (λ t. cond (not t) (1 + position_or_len (λ b. b == at) bs) 0 ≡ length (cond t [] (b ∷ before at bs))) [
+    | true ↦ refl
+    | false ↦ omega (arith, before-counted bs)
+  ])
 
-    pub before-goes-on :
-        i < length bytes → (get_or bytes i 0 ≡ at → ⊥)
-        → length (before at (drop i bytes)) ≡ suc (length (before at (drop (i + 1) bytes)))
-    unfolding before
-    before-goes-on l n = rw (drop-cons bytes i 0 l, ne_eqb (get_or bytes i 0) at n, add-one)
-
-    pub before-ends : length bytes ≤ i → length (before at (drop i bytes)) ≡ 0
-    unfolding before
-    before-ends l = rw (drop_of_length-le bytes {i = i} l)
+  pub before-found : (bs : List ℕ) → unwrap_or (position (λ b. b == at) bs) (length bs) ≡ length (before at bs)
+  before-found bs = rw (before-counted bs) ((elim (ltb (length (before at bs)) (length bs)) as (λ t. ltb (length (before at bs)) (length bs) ≡ t → unwrap_or (cond t (Some (length (before at bs))) None) (length bs) ≡ length (before at bs)) [
+    | true ↦ λ e. refl
+    | false ↦ λ e. omega (arith, before-fits bs, ltb-false (length (before at bs)) (length bs) e)
+  ]) refl)
 
 -- ---- the fields of a line, the first apart
 pub fields-first : (bs : List ℕ) → fields_of bs ≡ before 32 bs ∷ behind (drop (length (before 32 bs)) bs)
@@ -74,18 +94,9 @@ module _ (line : List ℕ) (i : ℕ) where
       )
 
 -- ---- bytes compared
-pub other_length : (xs ys : List ℕ) → (length xs ≡ length ys → ⊥) → same_bytes xs ys ≡ false
+pub same-pointwise : (xs ys : List ℕ) → pointwise nat_eq xs ys ≡ same_bytes xs ys
 unfolding same_bytes
-other_length [] [] n = absurd (n refl)
-other_length [] (y ∷ ys) n = refl
-other_length (x ∷ xs) [] n = refl
-other_length (x ∷ xs) (y ∷ ys) n = simp (other_length xs ys (λ e. n (ap suc e)), and-false)
-
-module _ (xs ys : List ℕ) (i : ℕ) (l : i < length xs) (e : length xs ≡ length ys) where
-  pub same_next : same_bytes (drop i xs) (drop i ys) ≡ eqb (get_or xs i 0) (get_or ys i 0) && same_bytes (drop (i + 1) xs) (drop (i + 1) ys)
-  unfolding same_bytes
-  same_next = rw (drop-cons xs i 0 l, drop-cons ys i 0 (omega arith), add-one)
-
-pub all_same : (xs ys : List ℕ) (i : ℕ) → length xs ≤ i → length xs ≡ length ys → same_bytes (drop i xs) (drop i ys) ≡ true
-unfolding same_bytes
-all_same xs ys i l e = rw (drop_of_length-le xs {i = i} l, drop_of_length-le ys {i = i} (omega arith))
+same-pointwise [] [] = refl
+same-pointwise [] (y ∷ ys) = refl
+same-pointwise (x ∷ xs) [] = refl
+same-pointwise (x ∷ xs) (y ∷ ys) = ap (λ b. nat_eq x y && b) (same-pointwise xs ys)

@@ -6,7 +6,7 @@ use std::io;
 
 fn event(key: u64, label: u64) -> Record {
     Record {
-        key: key,
+        key,
         value: 0,
         label: Leaf(label),
         stamp: Stamp(key),

@@ -13,7 +13,7 @@ use std::io;
 fn main(rt: HostRuntime) -> io::Result<()> {
     let done = Card::start(2, 1, 1, 16);
     let mut tree = [0u64; 48];
-    rack::fill(&mut tree, 2, 1);
+    let _ = rack::fill(&mut tree, 2, 1);
     let full = rounds::insertions(&rt, done.card, &mut tree)?;
     rounds::least(&rt, full)?;
     let fewer = rounds::extraction(&rt, full, &mut tree)?;

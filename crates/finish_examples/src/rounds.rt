@@ -1,4 +1,6 @@
 // One request after the other: begin, fetch, finish, store.
+ghost use Rattle.std.specs.Prelude.{◌≤◌};
+
 use crate::line;
 use answers::Answer;
 use card::{Card, Done};
@@ -8,25 +10,23 @@ use std::io;
 
 // The answer is printed, and the card goes on.
 fn told(rt: &impl Print, done: Done) -> io::Result<Card> {
-    let answer = done.answer;
-    line::answer(rt, answer)?;
+    line::answer(rt, done.answer)?;
     Ok(done.card)
 }
 
 // What was listed is fetched, worked on and stored back.
 fn worked(card: Card, list: &[u64], whole: usize, least: usize, tree: &mut [u64]) -> Done {
     let mut words = [0u64; 44];
-    rack::fetch(2, 1, tree, list, whole, least, &mut words);
+    let _ = rack::fetch(2, 1, tree, list, whole, least, &mut words);
     let done = card.finish(&mut words);
-    rack::store(2, 1, tree, list, whole, least, &words);
+    let _ = rack::store(2, 1, tree, list, whole, least, &words);
     done
 }
 
 // A refused begin is answered as it is.
 fn round(rt: &impl Print, begun: Done, list: &[u64], tree: &mut [u64]) -> io::Result<Card> {
-    let answer = begun.answer;
-    match answer {
-        Answer::Listed { whole, least } => told(rt, worked(begun.card, list, whole, least, tree)),
+    match begun.answer {
+        Answer::Listed(n) => told(rt, worked(begun.card, list, n.whole, n.least, tree)),
         _ => told(rt, begun),
     }
 }
@@ -41,9 +41,9 @@ fn insert(
 ) -> io::Result<Card> {
     let mut list = [0u64; 6];
     let request = Request::Insert {
-        key: key,
-        value: value,
-        label: label,
+        key,
+        value,
+        label,
         first: Leaf(1),
         second: Leaf(2),
     };
@@ -53,8 +53,7 @@ fn insert(
 
 fn extract(rt: &impl Print, card: Card, tree: &mut [u64]) -> io::Result<Card> {
     let mut list = [0u64; 4];
-    let request = Request::Extract;
-    let begun = card.begin(request, &mut list);
+    let begun = card.begin(Request::Extract, &mut list);
     line::numbers(rt, &list)?;
     round(rt, begun, &list, tree)
 }
@@ -67,27 +66,18 @@ fn delete(
     stamp: Stamp,
 ) -> io::Result<Card> {
     let mut list = [0u64; 4];
-    let request = Request::Delete {
-        label: label,
-        stamp: stamp,
-    };
-    let begun = card.begin(request, &mut list);
+    let begun = card.begin(Request::Delete { label, stamp }, &mut list);
     round(rt, begun, &list, tree)
 }
 
 // The words of a bucket: with height 2 and one slot, the buckets 2 to 7 have 8 words each.
-fn bucket(rt: &impl Print, tree: &[u64], number: usize) -> io::Result<()> {
-    if number < 2 {
-        return Ok(());
+fn bucket(rt: &impl Print, tree: &[u64], number: usize) -> io::Result<()>
+    requires { 2 ≤ number }
+{
+    match tree.chunks_exact(8).nth(number - 2) {
+        Some(words) => line::numbers(rt, words),
+        None => Ok(()),
     }
-    if number > 7 {
-        return Ok(());
-    }
-    let start = 8 * (number - 2);
-    if start + 8 <= tree.len() {
-        line::numbers(rt, &tree[start..start + 8])?;
-    }
-    Ok(())
 }
 
 // The third finds the root full.

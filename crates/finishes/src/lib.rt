@@ -12,12 +12,17 @@ use parts::Parts;
 use path::ROOT_PLACES;
 use record::Record;
 use request::Job;
-use settle::Settled;
+use settle::{Damaged, Settled};
 
 // For crates above: the finish of a job.
-pub fn settle_job(words: &mut [u64], root: [Record; ROOT_PLACES], parts: Parts, job: Job) -> Settled
+pub fn settle_job(
+    words: &mut [u64],
+    root: [Record; ROOT_PLACES],
+    parts: Parts,
+    job: Job,
+) -> Result<Settled, Damaged>
     requires { Finishable parts job words.old }
-    ensures { Settles parts root (damaged_for parts root job words.old) (left_for parts root job words.old) (words_moved parts.sizes.z (list_for parts.sizes.h job)) words.old words.new result }
+    ensures { Settles (damaged_for parts root job words.old) (left_for parts root job words.old) (words_moved parts.sizes.z (list_for parts.sizes.h job)) words.old words.new result }
 {
     match job {
         Job::Path { leaf, label, stamp } => removal::settle_removal(

@@ -13,7 +13,7 @@ use borrow.Author.Tests.{leb-true, leb-false, le-leb, lt-leb, ltb-true, ltb-fals
 use Rattle.decimal.specs.Digits.{width_of, decimal}
 use Rattle.decimal.specs.Promises.{Laid}
 use Rattle.decimal.proofs.PrintLaws.{no_room, in-room, laid-in-room, decimal-length}
-use Rattle.frames.specs.Answer.{mark_of, answer_line, unreadable_line}
+use Rattle.frames.specs.Answer.{mark_of, answer_line}
 
 -- ---- all of a slice from `at` on, lent and put back
 module _ (at : ℕ) (whole : List ℕ) where
@@ -205,12 +205,3 @@ module _ (numbers old : List ℕ) (i at : ℕ) (now : List ℕ) (w : Writing num
 pub unfit :
     (numbers old : List ℕ) → false ≡ leb (length (answer_line numbers)) (length old) → Laid (answer_line numbers) old 0 old
 unfit numbers old e = no_room (answer_line numbers) old (leb-false (length (answer_line numbers)) (length old) (sym e))
-
--- ---- a line that is not understood
-pub unreadable-unfit : (old : List ℕ) → length old < 2 → Laid unreadable_line old 0 old
-unreadable-unfit old l = no_room unreadable_line old l
-
-pub unreadable-written : (old : List ℕ) → 2 ≤ length old → Laid unreadable_line old 2 (set (set old 0 63) 1 10)
-unreadable-written [] l = absurd (omega arith)
-unreadable-written (a ∷ []) l = absurd (omega arith)
-unreadable-written (a ∷ b ∷ old) l = in-room unreadable_line (a ∷ b ∷ old) 2 (63 ∷ 10 ∷ old) refl l refl

@@ -1,46 +1,19 @@
--- Bytes taken into the buffer: the loop that appends, and what is kept of a line. Assumes nothing.
-use Prim.Native.Nat.{ℕ, ◌+◌, ◌-◌, ◌≤◌, ◌<◌, min}
-use mathlib.Core.Bool.{true, false, cond}
-use mathlib.Core.List.{List, ◌++◌}
+-- Bytes taken into the buffer: what is kept of a line. Assumes nothing.
+use Prim.Native.Nat.{ℕ, ◌+◌, ◌-◌, ◌≤◌, ◌<◌, min, max}
+use mathlib.Core.Bool.{Bool, true, false, cond}
+use mathlib.Core.List.{List, ◌++◌, append_assoc}
 use mathlib.Core.Path.{◌≡◌, refl, sym, ap, ◌∙◌}
 use native.Mathlib.Omega.{arith}
-use native.Mathlib.Numerals.{add-one}
-use lib.Dec.{leb}
-use lib.ListN.{length, get_or, take, drop, set, length-set, length-append, length-take, length-drop}
-use lib.Seq.{paste, paste-zero, paste-suc, get_or-drop, length-take-le, take_all, take-take, take-append-add}
-use borrow.Author.Tests.{leb-true, leb-false, lt-ltb, le-ltb, ltb-true, ltb-false}
+use lib.Dec.{leb, ltb}
+use mir.Val.{bool_byte}
+use lib.ListN.{length, take, drop, length-append, length-take, length-drop}
+use lib.Seq.{drop-drop, length-take-le, take_all, take-take, take-append-add}
+use borrow.Rule.Slice.PartMut.{put_mid}
+use borrow.Author.Tests.{leb-true, leb-false, ltb-true, ltb-false}
 use Rattle.fields.specs.Pieces.{before}
 use Rattle.frames.specs.declared.Taken.{Taken}
 use Rattle.frames.specs.Framing.{has_end, kept_of, Takes}
 use Rattle.fields.proofs.PiecesLaws.{before-fits, before_head}
-
--- ---- the loop that appends
-pub record Appending (old : List ℕ) (at : ℕ) (bytes : List ℕ) (n i : ℕ) (now : List ℕ) : Type 0 where
-  pub room : length now ≡ length old
-  pub place : i ≤ n
-  pub done : now ≡ paste old at bytes i
-
-module _ (old : List ℕ) (at : ℕ) (bytes : List ℕ) (n : ℕ) where
-  pub appending-starts : Appending old at bytes n 0 old
-  appending-starts = record { room = refl; place = omega arith; done = paste-zero old at bytes }
-
-  pub appending-ends : (i : ℕ) (now : List ℕ) → Appending old at bytes n i now → n ≤ i → now ≡ paste old at bytes n
-  appending-ends i now a l =
-      let all : i ≡ n = omega (arith, a.place) in
-      a.done ∙ ap (λ (k : ℕ). paste old at bytes k) all
-
-pub appending-turns :
-    (old : List ℕ) (at : ℕ) (bytes : List ℕ) (from n i : ℕ) (now : List ℕ) → Appending old at (drop from bytes) n i now
-    → at + n ≤ length old → n ≤ length (drop from bytes) → i < n
-    → Appending old at (drop from bytes) n (i + 1) (set now (at + i) (get_or bytes (from + i) 0))
-appending-turns old at bytes from n i now a l m h =
-    record {
-      room = length-set now (at + i) (get_or bytes (from + i) 0) ∙ a.room;
-      place = omega arith;
-      done =
-          rw (a.done, ← get_or-drop from bytes i 0, add-one)
-          (paste-suc old at (drop from bytes) i 0 (omega arith) (omega arith));
-    }
 
 -- ---- what is kept
 pub take_min : (a b : ℕ) (l : List ℕ) → take a (take b l) ≡ take (min a b) l
@@ -60,67 +33,63 @@ take-held held buffer =
     let all = take_all (length buffer) buffer (omega arith) in
     ap (λ (l : List ℕ). take held l) (sym all) ∙ take_min held (length buffer) buffer
 
+-- a flag as a number
+pub one-of : (t : Bool) → bool_byte t ≡ cond t 1 0
+one-of true = refl
+one-of false = refl
+
 module _
-    (buffer : List ℕ) (held : ℕ) (chunk : List ℕ) (from end old more : ℕ)
-    (e : end ≡ from + length (before 10 (drop from chunk)))
+    (buffer : List ℕ) (held : ℕ) (rest : List ℕ) (size old more : ℕ)
+    (e : size ≡ 0 + length (before 10 rest))
     (o : old ≡ min held (length buffer))
-    (m : more ≡ min (length buffer - old) (end - from))
+    (m : more ≡ min size (length buffer - old))
   where
-    pub room_for : old + more ≤ length buffer
-    room_for = omega arith
+    pub enough-left : more ≤ length rest
+    enough-left = omega (arith, before-fits 10 rest)
 
-    pub enough-left : more ≤ length (drop from chunk)
-    enough-left = omega (arith, before-fits 10 (drop from chunk))
-
-    kept-is : kept_of (length buffer) (take held buffer) (drop from chunk) ≡ take old buffer ++ take more (drop from chunk)
+    kept-is : kept_of (length buffer) (take held buffer) rest ≡ take old buffer ++ take more rest
     kept-is =
-        let size : length (take old buffer) ≡ old = length-take-le old buffer (omega arith) in
+        let begun : length (take old buffer) ≡ old = length-take-le old buffer (omega arith) in
         let all : length buffer ≡ length (take old buffer) + (length buffer - old) = omega arith in
-        let piece : before 10 (drop from chunk) ≡ take (end - from) (drop from chunk) =
-        let n : end - from ≡ length (before 10 (drop from chunk)) = omega arith in
-        sym (rw n (before_head 10 (drop from chunk))) in
+        let n : size ≡ length (before 10 rest) = omega arith in
+        let piece : before 10 rest ≡ take size rest = sym (rw n (before_head 10 rest)) in
+        let less : more ≡ min (length buffer - old) size = omega arith in
         rw (take-held held buffer, ← o, piece)
-        (ap (λ (k : ℕ). take k (take old buffer ++ take (end - from) (drop from chunk))) all
-        ∙ take-append-add (take old buffer) (take (end - from) (drop from chunk)) (length buffer - old)
-        ∙ rw (take_min (length buffer - old) (end - from) (drop from chunk), ← m))
+        (ap (λ (k : ℕ). take k (take old buffer ++ take size rest)) all
+        ∙ take-append-add (take old buffer) (take size rest) (length buffer - old)
+        ∙ rw (take_min (length buffer - old) size rest, ← less))
 
-    kept-length : old + more ≡ length (kept_of (length buffer) (take held buffer) (drop from chunk))
+    kept-length : old + more ≡ length (kept_of (length buffer) (take held buffer) rest)
     kept-length =
         rw (
           kept-is,
           length-append,
           length-take-le old buffer (omega arith),
-          length-take-le more (drop from chunk) enough-left,
+          length-take-le more rest enough-left,
         )
 
-    module _ (after : List ℕ) (done : after ≡ paste buffer old (drop from chunk) more) where
-      after_is :
-          after ≡ kept_of (length buffer) (take held buffer) (drop from chunk) ++ drop (old + more) buffer
-      after_is = done ∙ rw kept-is
+    pub next-within :
+        (chunk : List ℕ) (from : ℕ) → rest ≡ drop from chunk → (one : ℕ) → one ≡ cond (ltb size (length rest)) 1 0
+        → from + size + one ≤ max from (length chunk)
+    next-within chunk from r one b = (elim (ltb size (length rest)) as (λ t. ltb size (length rest) ≡ t → one ≡ cond t 1 0 → from + size + one ≤ max from (length chunk)) [
+      | true ↦ λ t w. omega (arith, ltb-true size (length rest) t, ap length r, length-drop from chunk)
+      | false ↦ λ t w. omega (arith, before-fits 10 rest, ap length r, length-drop from chunk)
+    ]) refl b
 
-      pub takes-end :
-          end < length chunk
-          → Takes buffer held chunk from (record { next = end + 1; held = old + more; ended = true }) after
-      takes-end l =
-          let t = lt-ltb (length (before 10 (drop from chunk))) (length (drop from chunk)) (omega (arith, length-drop from chunk)) in
-          record {
-            next = rw t (omega arith);
-            ended = sym t;
-            held = kept-length;
-            lent = after_is;
-          }
-
-      pub takes_all :
-          length chunk ≤ end
-          → Takes buffer held chunk from (record { next = end; held = old + more; ended = false }) after
-      takes_all l =
-          let t = le-ltb (length (before 10 (drop from chunk))) (length (drop from chunk)) (omega (arith, length-drop from chunk)) in
-          record {
-            next = rw t (omega arith);
-            ended = sym t;
-            held = kept-length;
-            lent = after_is;
-          }
+    pub takes-line :
+        (chunk : List ℕ) (from : ℕ) → rest ≡ drop from chunk → (copied : List ℕ) → copied ≡ take more rest → (one : ℕ)
+        → one ≡ cond (ltb size (length rest)) 1 0
+        → Takes buffer held chunk from (record { next = from + size + one; held = old + more; ended = ltb size (length rest) })
+        (put_mid old (old + more - old) buffer copied)
+    takes-line chunk from r copied is one b =
+        let n : old + more - old ≡ more = omega arith in
+        let z : size ≡ length (before 10 rest) = omega arith in
+        record {
+          next = rw (← r, ← z) (omega (arith, b));
+          ended = rw (← r, ← z);
+          held = rw (← r) kept-length;
+          lent = rw (← r, kept-is, n, is, drop-drop more old buffer) (sym (append_assoc (take old buffer) (take more rest) (drop (old + more) buffer)));
+        }
 
 -- ---- what a caller's loop needs to know
 module _ (buffer : List ℕ) (held : ℕ) (chunk : List ℕ) (from : ℕ) (r : Taken) (after : List ℕ) (t : Takes buffer held chunk from r after) where

@@ -1,6 +1,6 @@
 -- What the loops that load a scratch have done so far: records laid one behind the other.
 -- Assumes nothing.
-use Prim.Native.Nat.{ℕ, suc, ◌+◌, ◌*◌, ◌-◌, ◌≤◌, ◌<◌}
+use Prim.Native.Nat.{ℕ, suc, ◌+◌, ◌*◌, ◌≤◌, ◌<◌}
 use mathlib.Core.Path.{◌≡◌, refl, sym, ap, ◌∙◌}
 use mathlib.Core.List.{List, [], ◌++◌}
 use native.Mathlib.Nat.{mul-le-mul_left, mul-le-mul_right}
@@ -10,9 +10,8 @@ use lib.ListN.{length, get_or, set, take, drop}
 use lib.Seq.{length-take-le, take-suc, drop-cons, set_at, append_snoc}
 use Rattle.record.specs.declared.Record.{Record}
 use Rattle.record.specs.Words.{records, written}
-use Rattle.path.specs.Layout.{record_words}
 use Rattle.way.proofs.WayLaws.{part_length}
-use Rattle.gather.specs.Laid.{laid_over, SiblingsLoaded}
+use Rattle.gather.specs.Laid.{laid_over}
 use Rattle.gather.specs.Shown.{slots_shown, siblings_shown}
 use Rattle.gather.proofs.LaidLaws.{laid_none, laid-length, laid_more, written-laid}
 use Rattle.gather.proofs.ShownLaws.{slots-none, slots-more, slots_length, siblings-none, siblings-more, siblings-length}
@@ -44,77 +43,35 @@ module _ (old : List ℕ) (root : List Record) where
       let k = length-take-le i root (omega arith) in
       rw (add-one, take-suc root i d l) (laying-turns old 0 (take i root) _ now next i s (omega arith) (omega arith) (e ∙ written-laid now i _ (omega arith)))
 
--- A loop over buckets has laid the slots of d of them, from the `from`-th on.
-pub record Slots (z : ℕ) (ws : List ℕ) (at from : ℕ) (old now : List ℕ) (to first d : ℕ) : Type 0 where
-  pub place : to ≡ at + z * d
-  pub bucket : first ≡ (from + d) * (z + 1) + 1
-  pub laid : Laying old at (slots_shown z ws from d) now
-
+-- the slots of the first d of some buckets, from the `from`-th on
 module _ (z : ℕ) (ws : List ℕ) (at from : ℕ) (old : List ℕ) where
-  pub slots-start : Slots z ws at from old old at (from * (z + 1) + 1) 0
-  slots-start =
-      record { place = omega arith; bucket = omega arith; laid = rw slots-none (laying-starts old at) }
+  pub slots-start : Laying old at (slots_shown z ws from 0) old
+  slots-start = rw slots-none (laying-starts old at)
 
-  -- the next bucket is there, and there is room for its slots
-  pub slots-within : (now : List ℕ) (to first d count : ℕ) → Slots z ws at from old now to first d → d < count
+  pub slots-turn : (now next : List ℕ) (d count : ℕ) → Laying old at (slots_shown z ws from d) now → d < count
       → 4 * (at + z * count) ≤ length old → 4 * ((from + count) * (z + 1)) ≤ length ws
-      → (4 * (to + z) ≤ length now) × (4 * (first + z) ≤ length ws)
-  slots-within now to first d count s l fits given =
+      → next ≡ laid_over now (at + z * d) (take z (drop ((from + d) * (z + 1) + 1) (records ws)))
+      → Laying old at (slots_shown z ws from (d + 1)) next
+  slots-turn now next d count s l fits given e =
       let a : z * suc d ≤ z * count = mul-le-mul_left z l in
       let b : (from + suc d) * (z + 1) ≤ (from + count) * (z + 1) = mul-le-mul_right (z + 1) (omega arith) in
-      (omega arith, omega arith)
-
-  pub slots-turn : (now next : List ℕ) (to first d count : ℕ) → Slots z ws at from old now to first d → d < count
-      → 4 * (at + z * count) ≤ length old → 4 * ((from + count) * (z + 1)) ≤ length ws
-      → next ≡ laid_over now to (take z (drop first (records ws)))
-      → Slots z ws at from old next (to + z) (first + (z + 1)) (d + 1)
-  slots-turn now next to first d count s l fits given e =
-      let (a, b) = slots-within now to first d count s l fits given in
-      let k = s.laid.room in
       let n = slots_length z ws from d (omega arith) in
-      let m = part_length ws first z (omega arith) in
-      let more = laying-turns old at _ _ now next to s.laid (omega arith) (omega arith) e in
-      record { place = omega arith; bucket = omega arith; laid = rw (slots-more, ← s.bucket) more }
+      let m = part_length ws ((from + d) * (z + 1) + 1) z (omega arith) in
+      rw slots-more (laying-turns old at _ _ now next (at + z * d) s (omega arith) (omega arith) e)
 
-  pub slots_end : (now : List ℕ) (to first d count : ℕ) → Slots z ws at from old now to first d → d ≡ count
-      → now ≡ laid_over old at (slots_shown z ws from count)
-  slots_end now to first d count s e = rw (← e) s.laid.done
-
--- A loop over siblings, whose next goes to `place`, has laid the least records of those before it.
-pub record Siblings (z : ℕ) (ws : List ℕ) (n i at : ℕ) (old now : List ℕ) (from place moved : ℕ) : Type 0 where
-  pub begun : at ≤ place
-  pub sibling : from ≡ n * (z + 1) + i + (place - at)
-  pub counted : moved ≡ (place - at) * record_words
-  pub laid : Laying old at (siblings_shown z ws n i (place - at)) now
-
+-- the least records of the first d of some siblings
 module _ (z : ℕ) (ws : List ℕ) (n i at : ℕ) (old : List ℕ) where
-  pub siblings-start : Siblings z ws n i at old old (n * (z + 1) + i) at 0
-  siblings-start =
-      let e : at - at ≡ 0 = omega arith in
-      record { begun = omega arith; sibling = omega arith; counted = omega arith; laid = rw (e, siblings-none) (laying-starts old at) }
+  pub siblings-start : Laying old at (siblings_shown z ws n i 0) old
+  siblings-start = rw siblings-none (laying-starts old at)
 
-  pub siblings-turn : (now next : List ℕ) (from place moved : ℕ) → Siblings z ws n i at old now from place moved
-      → 4 * (place + 1) ≤ length old → 4 * (from + 1) ≤ length ws
-      → next ≡ laid_over now place (take 1 (drop from (records ws)))
-      → Siblings z ws n i at old next (from + 1) (place + 1) (moved + 4)
-  siblings-turn now next from place moved s fits given e =
-      let l = siblings-length z ws n i (place - at) in
-      let m = part_length ws from 1 (omega arith) in
-      let b = s.begun in
-      let f : place + 1 - at ≡ place - at + 1 = omega arith in
-      let more = laying-turns old at _ _ now next place s.laid (omega arith) (omega arith) e in
-      record {
-        begun = omega arith;
-        sibling = omega (arith, s.sibling);
-        counted = omega (arith, s.counted);
-        laid = rw (f, siblings-more z ws n i (place - at) (omega (arith, s.sibling)), ← s.sibling) more;
-      }
-
-  pub siblings-end : (now : List ℕ) (from place moved level h : ℕ) → Siblings z ws n i at old now from place moved → place ≡ h
-      → at ≡ level - 1 → 1 ≤ level → SiblingsLoaded z ws n i level (h + 1 - level) old now moved
-  siblings-end now from place moved level h s e f g =
-      let k : place - at ≡ h + 1 - level = omega arith in
-      record { laid = rw (← k, ← f) s.laid.done; counted = rw (← k) s.counted }
+  pub siblings-turn : (now next : List ℕ) (d : ℕ) → Laying old at (siblings_shown z ws n i d) now
+      → 4 * (at + d + 1) ≤ length old → 4 * (n * (z + 1) + i + d + 1) ≤ length ws
+      → next ≡ laid_over now (at + d) (take 1 (drop (n * (z + 1) + i + d) (records ws)))
+      → Laying old at (siblings_shown z ws n i (d + 1)) next
+  siblings-turn now next d s fits given e =
+      let l = siblings-length z ws n i d in
+      let m = part_length ws (n * (z + 1) + i + d) 1 (omega arith) in
+      rw (siblings-more z ws n i d given) (laying-turns old at _ _ now next (at + d) s (omega arith) (omega arith) e)
 
 -- A loop over the card's slots has put back the first i of a way.
 pub record Saving (way root : List Record) (now : List Record) (i : ℕ) : Type 0 where

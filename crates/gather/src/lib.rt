@@ -29,8 +29,7 @@ pub fn load_root(w: &mut [u64], root: [Record; ROOT_PLACES], r: usize)
     requires { (r ≤ 64) × (4 * r ≤ length w.old) }
     ensures { w.new ≡ laid_over w.old 0 (take r root) }
 {
-    for i in 0..r {
-        let record = root[i];
+    for (i, record) in root[..r].iter().enumerate() {
         record.write(w, i);
     }
 }
@@ -41,8 +40,8 @@ pub fn save_root(w: &[u64], root: [Record; ROOT_PLACES], r: usize) -> [Record; R
     ensures { result ≡ take r (records w.now) ++ drop r root }
 {
     let mut saved = root;
-    for i in 0..r {
-        saved[i] = Record::read(w, i);
+    for (i, slot) in saved[..r].iter_mut().enumerate() {
+        *slot = Record::read(w, i);
     }
     saved
 }
@@ -53,12 +52,9 @@ pub fn load_slots(w: &mut [u64], at: usize, words: &[u64], from: usize, count: u
     requires { (z ≤ 5) × ((4 * (at + z * count) ≤ length w.old) × (4 * ((from + count) * (z + 1)) ≤ length words.now)) }
     ensures { w.new ≡ laid_over w.old at (slots_shown z words.now from count) }
 {
-    let mut to = at;
-    let mut first = from * (z + 1) + 1;
-    for _ in 0..count {
-        copy(w, to, words, first, z);
-        to += z;
-        first += z + 1;
+    for i in 0..count {
+        let first = (from + i) * (z + 1) + 1;
+        copy(w, at + z * i, words, first, z);
     }
 }
 
@@ -77,6 +73,7 @@ pub fn load_path(w: &mut [u64], words: &[u64], from: usize, sizes: Sizes)
 // For crates above: the least records of a path's siblings at levels `level` to h, which stand behind `whole` whole
 // buckets and `skip` siblings. Level d's goes to place d - 1, whatever the first level is: one path fetches its
 // siblings from level 1 on, each of Insert's two from level 2 on. The words moved are counted with each: it was fetched.
+// Kept: one copy of them all would be no plainer count of what is handled.
 pub fn load_siblings(
     sibs: &mut [u64],
     words: &[u64],
@@ -89,16 +86,11 @@ pub fn load_siblings(
     requires level_in_bounds { 4 * (whole * (sizes.z + 1) + skip + (sizes.h + 1 - level)) ≤ length words.now }
     ensures { SiblingsLoaded sizes.z words.now whole skip level (sizes.h + 1 - level) sibs.old sibs.new result }
 {
-    let h = sizes.h as usize;
-    let z = sizes.z as usize;
-    let mut from = whole * (z + 1) + skip;
-    let mut place = level - 1;
+    let from = whole * (sizes.z as usize + 1) + skip;
     let mut moved = 0;
-    while place < h {
-        copy(sibs, place, words, from, 1);
+    for i in 0..sizes.h as usize + 1 - level {
+        copy(sibs, level - 1 + i, words, from + i, 1);
         moved += RECORD_WORDS as u64;
-        from += 1;
-        place += 1;
     }
     moved
 }

@@ -12,17 +12,17 @@ use card::Card;
 use image::CARD_WORDS;
 use path::Sizes;
 
+#[tactic(auto, unfolding(crate::specs::Held::held_in))]
 pub fn card_of(words: &[u64; CARD_WORDS]) -> Card
     ensures { result ≡ held_in words.now }
 {
     if image::is_odd(words) {
-        let none = Sizes {
+        return Card::fresh(Sizes {
             h: 0,
             z: 0,
             r: 0,
             t: 0,
-        };
-        return Card::fresh(none);
+        });
     }
     image::read(words)
 }

@@ -8,6 +8,7 @@ use native.Mathlib.Omega.{arith}
 use native.Mathlib.Nat.{mul-le-mul_right}
 use lib.ListN.{length}
 use borrow.Author.Tests.{ne_eqb, le-leb}
+use Rattle.std.specs.Prelude.{Some}
 use Rattle.record.specs.declared.Record.{Record}
 use Rattle.path.specs.declared.sizes.Sizes.{Sizes}
 use Rattle.path.specs.Layout.{bucket_words}
@@ -17,7 +18,6 @@ use Rattle.path.proofs.SizesLaws.{in-range}
 use Rattle.refusal.specs.Refusal.{first_given, or_else}
 use Rattle.answers.specs.Answers.{number_of}
 use Rattle.request.specs.declared.Request.{Request}
-use Rattle.request.specs.declared.Waiting.TheVariants.{For}
 use Rattle.request.specs.declared.job.Job.{Job}
 use Rattle.request.specs.Tables.{waits}
 use Rattle.request.specs.Job.{job_of}
@@ -73,7 +73,7 @@ module _
 
     -- the card on which the request waits
     abbrev waiting : Card
-    waiting = with_waiting k (For w)
+    waiting = with_waiting k (Some w)
 
     few : words_needed k w ≤ length word_places
     few = words-few k.sizes (job_of (parts_of k) w) height slots.1

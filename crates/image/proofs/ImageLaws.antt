@@ -7,8 +7,8 @@ use mathlib.Core.Path.{◌≡◌, refl, ap, ◌∙◌}
 use native.Mathlib.Omega.{arith}
 use lib.ListN.{length, get_or, take, drop, length-append, length-drop, drop_of_length-le}
 use lib.Seq.{take_at, take_all, drop-cons}
-use borrow.Author.Rules.{part_to_end}
 use borrow.Rule.Slice.PartMut.{mid_of, put_mid, mid_len, Post-is}
+use Rattle.std.specs.Prelude.{Option, None, Some}
 use Rattle.record.specs.declared.Record.{Record}
 use Rattle.record.specs.Standing.{dummy}
 use Rattle.record.specs.Words.{record_at, written, records, words_of}
@@ -18,8 +18,7 @@ use Rattle.gather.specs.Laid.{laid_over}
 use Rattle.gather.proofs.LaidLaws.{laid-length, laid_more, written-laid}
 use Rattle.parts.specs.declared.Parts.{Parts}
 use Rattle.card.specs.declared.Card.{Card}
-use Rattle.request.specs.declared.Waiting.{Waiting}
-use Rattle.request.specs.declared.Waiting.TheVariants.{Nothing, For}
+use Rattle.request.specs.declared.Request.{Request}
 use Rattle.request.specs.declared.Request.TheVariants.{Insert, Extract, Delete}
 use Rattle.card.specs.Tables.{parts_of, card_of}
 use Rattle.kinds.specs.Kinds.{request_words, waiting_of}
@@ -27,7 +26,7 @@ use Rattle.kinds.proofs.KindLaws.{request-length, even-request}
 use Rattle.image.specs.Image.{card_words, head_of, image_of}
 use Rattle.image.specs.Reading.{waiting_in, card_in, odd_kind}
 
-head-length : (s : Sizes) (t c : ℕ) (w : Waiting) → length (head_of s t c w) ≡ 12
+head-length : (s : Sizes) (t c : ℕ) (w : Option Request) → length (head_of s t c w) ≡ 12
 head-length s t c w = omega (arith, request-length w)
 
 -- ---- written piece by piece: the head as three records, the least record, the root in the part behind them
@@ -70,13 +69,13 @@ module _ (k : Card) (full : length k.root ≡ 64) where
       whole = ap length front-written ∙ laid-length ws 0 front (omega (arith, front-count)) ∙ room
 
       pub image-written :
-          (part : List ℕ) → part ≡ laid_over (mid_of 16 (length w - 16) w) 0 (take 64 k.root)
-          → put_mid 16 (length w - 16) w part ≡ image_of k
+          (part : List ℕ) → part ≡ laid_over (mid_of 16 256 w) 0 (take 64 k.root)
+          → put_mid 16 256 w part ≡ image_of k
       unfolding image_of laid_over words_of
       image-written part f =
-          let n = mid_len 16 (length w) w (omega arith) in
-          let none = drop_of_length-le (mid_of 16 (length w - 16) w) {i = 4 * (0 + length k.root)} (omega (arith, whole)) in
-          let past : drop (length w - 16) (drop 16 w) ≡ [] = Post-is 16 (length w) w (omega (arith, whole)) ∙ drop_of_length-le w {i = length w} (omega arith) in
+          let n = mid_len 16 272 w (omega (arith, whole)) in
+          let none = drop_of_length-le (mid_of 16 256 w) {i = 4 * (0 + length k.root)} (omega (arith, whole)) in
+          let past : drop 256 (drop 16 w) ≡ [] = Post-is 16 272 w (omega (arith, whole)) ∙ drop_of_length-le w {i = 272} (omega (arith, whole)) in
           let size : length (words_of front) ≡ 16 = words-length front ∙ omega (arith, front-count) in
           let before : take 16 w ≡ words_of front = rw (front-written, front-laid, take_at _ _ 16 size) in
           let behind : part ≡ words_of k.root = f ∙ rw (take_all 64 k.root (omega arith), none, append-nil) in
@@ -86,17 +85,18 @@ module _ (k : Card) (full : length k.root ≡ 64) where
 -- the root's places, as many as the words behind the least record hold
 pub root-read :
     (ws : List ℕ) (none : List Record) → length ws ≡ card_words → length none ≡ 64
-    → take 64 (records (take (length ws - 16) (drop 16 ws))) ++ drop 64 none ≡ records (drop 16 ws)
+    → take 64 (records (mid_of 16 256 ws)) ++ drop 64 none ≡ records (drop 16 ws)
 root-read ws none room few =
     let n = records-length (drop 16 ws) 64 (length-drop 16 ws ∙ omega arith) in
-    rw (part_to_end, take_all 64 (records (drop 16 ws)) (omega arith), drop_of_length-le none {i = 64} (omega arith), append-nil)
+    let behind : mid_of 16 256 ws ≡ drop 16 ws = take_all 256 (drop 16 ws) (omega (arith, length-drop 16 ws)) in
+    rw (behind, take_all 64 (records (drop 16 ws)) (omega arith), drop_of_length-le none {i = 64} (omega arith), append-nil)
 
-parts-read : (p : Parts) (root : List Record) (w : Waiting) → card_in (image_of (card_of p root w)) ≡ card_of p root w
+parts-read : (p : Parts) (root : List Record) (w : Option Request) → card_in (image_of (card_of p root w)) ≡ card_of p root w
 unfolding card_in image_of request_words words_of waiting_of
-parts-read p root Nothing = ap (λ (l : List Record). card_of p l Nothing) (records-words root)
-parts-read p root (For (Insert key value label first second)) = ap (λ (l : List Record). card_of p l (For (Insert key value label first second))) (records-words root)
-parts-read p root (For Extract) = ap (λ (l : List Record). card_of p l (For Extract)) (records-words root)
-parts-read p root (For (Delete label stamp)) = ap (λ (l : List Record). card_of p l (For (Delete label stamp))) (records-words root)
+parts-read p root None = ap (λ (l : List Record). card_of p l None) (records-words root)
+parts-read p root (Some (Insert key value label first second)) = ap (λ (l : List Record). card_of p l (Some (Insert key value label first second))) (records-words root)
+parts-read p root (Some Extract) = ap (λ (l : List Record). card_of p l (Some Extract)) (records-words root)
+parts-read p root (Some (Delete label stamp)) = ap (λ (l : List Record). card_of p l (Some (Delete label stamp))) (records-words root)
 
 -- what was written is read back, whatever the card holds
 pub card-image : (k : Card) → card_in (image_of k) ≡ k

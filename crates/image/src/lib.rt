@@ -6,15 +6,15 @@
 // root's places, on `gather`.
 #![tactic(auto)]
 
-ghost use Rattle.std.specs.Prelude.{◌≡◌, length};
-ghost use Rattle.image.specs.Image.{card_words, head_of, image_of};
+ghost use Rattle.std.specs.Prelude.{◌≡◌};
+ghost use Rattle.image.specs.Image.{head_of, image_of};
 ghost use Rattle.image.specs.Reading.{card_in, odd_kind};
 
 use card::Card;
 use kinds::KIND_DELETE;
 use path::{ROOT_PLACES, Sizes};
 use record::Record;
-use request::Waiting;
+use request::Request;
 
 // How many words a card is.
 pub const CARD_WORDS: usize = 272;
@@ -30,7 +30,7 @@ const HEAD_PLACES: usize = 3;
 // The first word of the root's places.
 const ROOT_AT: usize = 16;
 
-// Whether the kind is none of the four: `Waiting` has no such case, so no card stands for these words.
+// Whether the kind is none of the four: no request has another, so no card stands for these words.
 pub fn is_odd(words: &[u64; CARD_WORDS]) -> bool
     ensures { result ≡ odd_kind words.now }
 {
@@ -38,7 +38,7 @@ pub fn is_odd(words: &[u64; CARD_WORDS]) -> bool
 }
 
 // The words before the records.
-fn head_words(sizes: Sizes, t: u64, c: u64, waiting: Waiting) -> [u64; HEAD_WORDS]
+fn head_words(sizes: Sizes, t: u64, c: u64, waiting: Option<Request>) -> [u64; HEAD_WORDS]
     ensures { result ≡ head_of sizes t c waiting }
 {
     let q = kinds::request_words(waiting);
@@ -47,8 +47,8 @@ fn head_words(sizes: Sizes, t: u64, c: u64, waiting: Waiting) -> [u64; HEAD_WORD
     ]
 }
 
-fn read_slice(words: &[u64]) -> Card
-    requires { length words.now ≡ card_words }
+// The card that the words stand for.
+pub fn read(words: &[u64; CARD_WORDS]) -> Card
     ensures { result ≡ card_in words.now }
 {
     let sizes = Sizes {
@@ -69,38 +69,21 @@ fn read_slice(words: &[u64]) -> Card
     let places = [Record::DUMMY; ROOT_PLACES];
     let root = gather::save_root(&words[ROOT_AT..], places, ROOT_PLACES);
     Card {
-        sizes: sizes,
+        sizes,
         t: words[4],
         c: words[5],
-        root: root,
-        least: least,
-        waiting: waiting,
+        root,
+        least,
+        waiting,
     }
-}
-
-fn write_slice(card: Card, words: &mut [u64])
-    requires { length words.old ≡ card_words }
-    ensures { words.new ≡ image_of card }
-{
-    let root = card.root;
-    let least = card.least;
-    let waiting = card.waiting;
-    let head = head_words(card.sizes, card.t, card.c, waiting);
-    gather::copy(words, 0, &head, 0, HEAD_PLACES);
-    least.write(words, HEAD_PLACES);
-    gather::load_root(&mut words[ROOT_AT..], root, ROOT_PLACES);
-}
-
-// The card that the words stand for.
-pub fn read(words: &[u64; CARD_WORDS]) -> Card
-    ensures { result ≡ card_in words.now }
-{
-    read_slice(words)
 }
 
 // All words of the card.
 pub fn write(card: Card, words: &mut [u64; CARD_WORDS])
     ensures { words.new ≡ image_of card }
 {
-    write_slice(card, words);
+    let head = head_words(card.sizes, card.t, card.c, card.waiting);
+    gather::copy(words, 0, &head, 0, HEAD_PLACES);
+    card.least.write(words, HEAD_PLACES);
+    gather::load_root(&mut words[ROOT_AT..], card.root, ROOT_PLACES);
 }

@@ -1,6 +1,5 @@
 -- The stores of an Insert's two paths, and the words moved for them. Assumes nothing.
 use Prim.Native.Nat.{ℕ, ◌+◌, ◌*◌, ◌-◌, ◌≤◌}
-use mathlib.Core.Bool.{false}
 use mathlib.Core.List.{List, ◌++◌, append_assoc, append-nil}
 use mathlib.Core.Path.{◌≡◌, refl, ap, ◌∙◌}
 use native.Mathlib.Nat.{mul-le-mul_left}
@@ -14,7 +13,7 @@ use Rattle.path.specs.declared.sizes.Sizes.{Sizes}
 use Rattle.path.specs.Layout.{record_words, bucket_words}
 use Rattle.lists.specs.BucketList.{words_moved, pair_list, moved}
 use Rattle.lists.proofs.ListLaws.{moved-by-counts, pair-counts, next-part}
-use Rattle.writing.specs.Stored.{StoreRoom, Stored}
+use Rattle.writing.specs.Stored.{Stored}
 use Rattle.parts.specs.declared.Parts.{Parts}
 use Rattle.path.specs.Cut.{Cut}
 use Rattle.settle.specs.Room.{InsertionRoom}
@@ -23,13 +22,13 @@ use Rattle.settle.specs.Settled.{Writes}
 use Rattle.insertion.specs.Store.{PairStoreRoom}
 
 -- a path's words are few
-pub path-few : (s : Sizes) (n : ℕ) → Cut s → n ≡ s.h * bucket_words s.z → n ≤ 384
+path-few : (s : Sizes) (n : ℕ) → Cut s → n ≡ s.h * bucket_words s.z → n ≤ 384
 path-few s n cut e =
     let m : s.h * bucket_words s.z ≤ s.h * 24 = mul-le-mul_left s.h (omega (arith, cut.width)) in
     omega (arith, cut.height)
 
 -- and so are the words moved for two paths
-pub pair-few : (s : Sizes) (n : ℕ) → Cut s → n ≡ 2 * (s.h * (2 * bucket_words s.z)) → n ≤ 1536
+pair-few : (s : Sizes) (n : ℕ) → Cut s → n ≡ 2 * (s.h * (2 * bucket_words s.z)) → n ≤ 1536
 pair-few s n cut e =
     let k = path-few s (s.h * bucket_words s.z) cut refl in
     let f : s.h * (2 * bucket_words s.z) ≡ 2 * (s.h * bucket_words s.z) = omega arith in
@@ -45,19 +44,6 @@ pair-room p first second ws one two room e f =
     record { sizes = room.parts.sizes; lower = e; upper = f; room = omega arith }
 
 module _ (s : Sizes) (ws one two : List ℕ) (room : PairStoreRoom s ws one two) where
-  pub first-stores : StoreRoom s ws one
-  first-stores = let k = room.room in record { width = room.sizes.width; buckets = room.lower; room = omega arith }
-
-  -- the second path's part of the words starts where the first's ends
-  pub second-starts : (mid : List ℕ) → length mid ≡ length ws → length one ≤ length mid
-  second-starts mid e = let k = room.room in omega arith
-
-  pub second-stores : (mid : List ℕ) → length mid ≡ length ws → StoreRoom s (take (length mid - length one) (drop (length one) mid)) two
-  second-stores mid e =
-      let k = room.room in
-      let n = ap length (part_to_end mid (length one)) ∙ length-drop (length one) mid in
-      record { width = room.sizes.width; buckets = room.upper; room = omega arith }
-
   pub stores-fit : (m n : ℕ) → m ≡ s.h * (2 * bucket_words s.z) → n ≡ s.h * (2 * bucket_words s.z) → m + n ≤ 1536
   stores-fit m n e f = pair-few s (m + n) room.sizes (omega arith)
 
@@ -77,13 +63,12 @@ both_stored before mid rest one two e f l =
 
 module _ (s : Sizes) (before mid rest one two : List ℕ) (m n : ℕ) (out : Settled) (room : PairStoreRoom s before one two)
     (lower : Stored s one before mid m) (upper : Stored s two (take (length mid - length one) (drop (length one) mid)) rest n) where
-  pub pair-written : out.damaged ≡ false
-      → Writes (one ++ two) (2 * (s.h * (2 * bucket_words s.z))) before (put_mid (length one) (length mid - length one) mid rest) out
-      (record { root = out.root; least = out.least; c = out.c; found = out.found; moved = out.moved + (m + n); damaged = out.damaged })
-  pair-written f =
+  pub pair-written : Writes (one ++ two) (2 * (s.h * (2 * bucket_words s.z))) before (put_mid (length one) (length mid - length one) mid rest) out
+      (record { root = out.root; least = out.least; c = out.c; found = out.found; moved = out.moved + (m + n) })
+  pair-written =
       let k = room.room in
       let e : m + n ≡ 2 * (s.h * (2 * bucket_words s.z)) = omega (arith, lower.counted, upper.counted) in
-      record { whole = rw (f, e); words = rw f (both_stored before mid rest one two lower.words upper.words (omega arith)) }
+      record { whole = rw e; words = both_stored before mid rest one two lower.words upper.words (omega arith) }
 
 -- "16h(Z+1) + 8h - 8"
 pub pair-words : (s : Sizes) (first second : Leaf) → 1 ≤ s.h

@@ -15,9 +15,9 @@ ghost use Rattle.insertion.specs.Store.{PairStoreRoom};
 use parts::Parts;
 use path::{ROOT_PLACES, Sizes};
 use record::{Leaf, Record};
-use settle::{PATH_MOST, Settled, path_words};
+use settle::{Damaged, PATH_MOST, Settled, path_words};
 
-// The buckets are written: the first path's, and behind them the second's; or nothing, where it is Damaged.
+// The buckets are written: the first path's, and behind them the second's.
 fn write_insertion(
     words: &mut [u64],
     one: &[u64],
@@ -28,9 +28,6 @@ fn write_insertion(
     requires { (PairStoreRoom sizes words.old one.now two.now) × (out.moved ≤ 4294967295) }
     ensures { Writes (one.now ++ two.now) (2 * (sizes.h * (2 * bucket_words sizes.z))) words.old words.new out result }
 {
-    if out.damaged {
-        return out;
-    }
     let half = one.len();
     let lower = writing::write_path(words, one, sizes);
     let upper = writing::write_path(&mut words[half..], two, sizes);
@@ -49,9 +46,9 @@ pub fn settle_insertion(
     first: Leaf,
     second: Leaf,
     new: Record,
-) -> Settled
+) -> Result<Settled, Damaged>
     requires { InsertionRoom parts first second words.old }
-    ensures { Settles parts root (insertion_damaged parts root words.old first second new) (insertion parts root words.old first second new) (words_moved parts.sizes.z (pair_list parts.sizes.h first second)) words.old words.new result }
+    ensures { Settles (insertion_damaged parts root words.old first second new) (insertion parts root words.old first second new) (words_moved parts.sizes.z (pair_list parts.sizes.h first second)) words.old words.new result }
 {
     let sizes = parts.sizes;
     let buckets = path_words(sizes);
@@ -59,6 +56,6 @@ pub fn settle_insertion(
     let mut upper = [0u64; PATH_MOST];
     let one = &mut lower[0..buckets];
     let two = &mut upper[0..buckets];
-    let out = prepare::prepare_insertion(words, one, two, root, parts, first, second, new);
-    write_insertion(words, one, two, sizes, out)
+    let out = prepare::prepare_insertion(words, one, two, root, parts, first, second, new)?;
+    Ok(write_insertion(words, one, two, sizes, out))
 }

@@ -68,11 +68,11 @@ module _ (ws : List ℕ) (r : ℕ) (rule : Rule) (c : ℕ) (least : Record) wher
     pub slots-bad : not fine ≡ true → true ≡ bad
     slots-bad e = rw (slots-found, e)
 
-    module _ (good : not fine ≡ false) (none : Bool) (past : none ≡ every is_dummy (records (take (length ws - 4 * r) (drop (4 * r) ws)))) where
+    module _ (long : length ws ≡ 256) (good : not fine ≡ false) (none : Bool) (past : none ≡ every is_dummy (records (take (256 - 4 * r) (drop (4 * r) ws)))) where
       past-found : used_past r (records ws) ≡ not none
       unfolding used_past
       past-found =
-          ap not (sym (past ∙ ap (every is_dummy) (ap records (part_to_end ws (4 * r)) ∙ records-drop ws r)))
+          ap not (sym (rw (← long) at past ∙ ap (every is_dummy) (ap records (part_to_end ws (4 * r)) ∙ records-drop ws r)))
 
       pub past-bad : not none ≡ true → true ≡ bad
       past-bad e = rw (slots-found, good, past-found, e)

@@ -17,9 +17,7 @@ pub fn least_over(w: &[u64], from: usize, n: usize, last: Record) -> Record
     ensures { (rule : Rule) → result ≡ over rule (take n (drop from (records w.now))) last }
 {
     let mut least = last;
-    let mut k = n;
-    while k > 0 {
-        k -= 1;
+    for k in (0..n).rev() {
         least = Record::read(w, from + k).smaller(least);
     }
     least

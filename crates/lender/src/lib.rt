@@ -2,7 +2,7 @@
 // call, and hands back what stands there afterwards.
 //
 // Each promises what the call by value promises, word for word: the second entrance equals the first. A caller needs no reference.
-// Each has a shape of which `loans` has the law. Stands on `lent`.
+// Each is a law of `loans`, told of a call of `lent`. Stands on `lent` and `loans`.
 #![tactic(auto)]
 
 ghost use Rattle.refusal.specs.Refusal.{first_given};
@@ -15,52 +15,32 @@ use card::{Card, Done};
 use request::Request;
 
 // A refused start leaves the card that stood.
-pub fn start(mut card: Card, h: u64, z: u64, r: u64, t: u64) -> Done
+pub fn start(card: Card, h: u64, z: u64, r: u64, t: u64) -> Done
     ensures { Answered card (first_given (start_table (sizes_of h z r t))) (started (sizes_of h z r t)) result }
 {
-    let answer = lent::start(&mut card, h, z, r, t);
-    Done {
-        card: card,
-        answer: answer,
-    }
+    loans::with_four(card, h, z, r, t, lent::start)
 }
 
-pub fn begin(mut card: Card, request: Request, list: &mut [u64]) -> Done
+pub fn begin(card: Card, request: Request, list: &mut [u64]) -> Done
     ensures { Begins card request list.old list.new result }
 {
-    let answer = lent::begin(&mut card, request, list);
-    Done {
-        card: card,
-        answer: answer,
-    }
+    loans::with_one_and_slice(card, request, list, lent::begin)
 }
 
-pub fn find_min(mut card: Card) -> Done
+pub fn find_min(card: Card) -> Done
     ensures { Answered card (first_given (min_table card)) (found_min card) result }
 {
-    let answer = lent::find_min(&mut card);
-    Done {
-        card: card,
-        answer: answer,
-    }
+    loans::with_card(card, lent::find_min)
 }
 
-pub fn withdraw(mut card: Card) -> Done
+pub fn withdraw(card: Card) -> Done
     ensures { Answered card (first_given (withdraw_table card)) (withdrawn card) result }
 {
-    let answer = lent::withdraw(&mut card);
-    Done {
-        card: card,
-        answer: answer,
-    }
+    loans::with_card(card, lent::withdraw)
 }
 
-pub fn finish(mut card: Card, words: &mut [u64]) -> Done
+pub fn finish(card: Card, words: &mut [u64]) -> Done
     ensures { Finishes card words.old words.new result }
 {
-    let answer = lent::finish(&mut card, words);
-    Done {
-        card: card,
-        answer: answer,
-    }
+    loans::with_slice(card, words, lent::finish)
 }

@@ -13,18 +13,9 @@ pub(crate) fn start_over(card: Card, h: u64, z: u64, r: u64, t: u64) -> Done
     ensures { Answered card (first_given (start_table (sizes_of h z r t))) (started (sizes_of h z r t)) result }
 {
     let done = Card::start(h, z, r, t);
-    let sizes = Sizes {
-        h: h,
-        z: z,
-        r: r,
-        t: t,
-    };
+    let sizes = Sizes { h, z, r, t };
     if sizes.in_range() {
         return done;
     }
-    let answer = done.answer;
-    Done {
-        card: card,
-        answer: answer,
-    }
+    Done { card, ..done }
 }

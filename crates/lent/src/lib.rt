@@ -1,9 +1,8 @@
 // The second entrance: document 01, "one thin second entrance keeps the card where the driver lent it, and equals the first."
 //
 // Each function takes `&mut Card` and the numbers and slices of a call by value, makes that call and stores its card. Its promise is
-// that call's, at the card that stood behind the reference and the card that stands there afterwards. Stands on `card`.
-//
-// Each has a shape of which `shapes` has the law: `let done = card.CALL(..); *card = done.card; done.answer`.
+// that call's, at the card that stood behind the reference and the card that stands there afterwards: each is a law of `shapes`, told
+// of that call. Stands on `card` and `shapes`.
 #![tactic(auto)]
 
 ghost use Rattle.refusal.specs.Refusal.{first_given};
@@ -23,39 +22,29 @@ use request::Request;
 pub fn start(card: &mut Card, h: u64, z: u64, r: u64, t: u64) -> Answer
     ensures { Answered card.old (first_given (start_table (sizes_of h z r t))) (started (sizes_of h z r t)) (handed card.new result) }
 {
-    let done = start_over(*card, h, z, r, t);
-    *card = done.card;
-    done.answer
+    shapes::of_four(card, h, z, r, t, start_over)
 }
 
 pub fn begin(card: &mut Card, request: Request, list: &mut [u64]) -> Answer
     ensures { Begins card.old request list.old list.new (handed card.new result) }
 {
-    let done = card.begin(request, list);
-    *card = done.card;
-    done.answer
+    shapes::of_one_and_slice(card, request, list, Card::begin)
 }
 
 pub fn find_min(card: &mut Card) -> Answer
     ensures { Answered card.old (first_given (min_table card.old)) (found_min card.old) (handed card.new result) }
 {
-    let done = card.find_min();
-    *card = done.card;
-    done.answer
+    shapes::of_card(card, Card::find_min)
 }
 
 pub fn withdraw(card: &mut Card) -> Answer
     ensures { Answered card.old (first_given (withdraw_table card.old)) (withdrawn card.old) (handed card.new result) }
 {
-    let done = card.withdraw();
-    *card = done.card;
-    done.answer
+    shapes::of_card(card, Card::withdraw)
 }
 
 pub fn finish(card: &mut Card, words: &mut [u64]) -> Answer
     ensures { Finishes card.old words.old words.new (handed card.new result) }
 {
-    let done = card.finish(words);
-    *card = done.card;
-    done.answer
+    shapes::of_card_and_slice(card, words, Card::finish)
 }

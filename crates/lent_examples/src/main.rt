@@ -9,15 +9,13 @@ mod requests;
 use answers::Answer;
 use card::{Card, Done};
 use std::io;
-use steps::Reply;
 
 // The longest reply has 107 bytes.
 const REPLY_ROOM: usize = 128;
 
 fn say(rt: &impl Print, answer: Answer) -> io::Result<()> {
     let mut out = [0u8; REPLY_ROOM];
-    let reply = Reply::Said(answer);
-    let n = replies::print_reply(reply, &mut out);
+    let n = replies::print_reply(Some(answer), &mut out);
     if n <= out.len() {
         rt.write_all(&out[0..n])?;
     }
@@ -26,8 +24,7 @@ fn say(rt: &impl Print, answer: Answer) -> io::Result<()> {
 
 // The answer is printed, and the card goes on.
 pub(crate) fn told(rt: &impl Print, done: Done) -> io::Result<Card> {
-    let answer = done.answer;
-    say(rt, answer)?;
+    say(rt, done.answer)?;
     Ok(done.card)
 }
 
@@ -35,7 +32,7 @@ fn main(rt: HostRuntime) -> io::Result<()> {
     let none = Card::start(0, 0, 0, 0);
     let fresh = told(&rt, lender::start(none.card, 2, 1, 1, 16))?;
     let mut tree = [0u64; 48];
-    rack::fill(&mut tree, 2, 1);
+    let _ = rack::fill(&mut tree, 2, 1);
     let full = requests::insertions(&rt, fresh, &mut tree)?;
     let seen = told(&rt, lender::find_min(full))?;
     requests::removals(&rt, seen, &mut tree)?;

@@ -10,17 +10,14 @@ use std::io;
 fn round(rt: &impl Print, card: Card, tree: &mut [u64], request: Request) -> io::Result<Card> {
     let mut list = [0u64; 6];
     let begun = lender::begin(card, request, &mut list);
-    let answer = begun.answer;
-    match answer {
-        Answer::Listed { whole, least } => {
-            let mut words = [0u64; 44];
-            rack::fetch(2, 1, tree, &list, whole, least, &mut words);
-            let done = lender::finish(begun.card, &mut words);
-            rack::store(2, 1, tree, &list, whole, least, &words);
-            told(rt, done)
-        }
-        _ => told(rt, begun),
-    }
+    let Answer::Listed(n) = begun.answer else {
+        return told(rt, begun);
+    };
+    let mut words = [0u64; 44];
+    let _ = rack::fetch(2, 1, tree, &list, n.whole, n.least, &mut words);
+    let done = lender::finish(begun.card, &mut words);
+    let _ = rack::store(2, 1, tree, &list, n.whole, n.least, &words);
+    told(rt, done)
 }
 
 fn insert(
@@ -32,9 +29,9 @@ fn insert(
     label: Leaf,
 ) -> io::Result<Card> {
     let request = Request::Insert {
-        key: key,
-        value: value,
-        label: label,
+        key,
+        value,
+        label,
         first: Leaf(1),
         second: Leaf(2),
     };
@@ -42,8 +39,7 @@ fn insert(
 }
 
 fn extract(rt: &impl Print, card: Card, tree: &mut [u64]) -> io::Result<Card> {
-    let request = Request::Extract;
-    round(rt, card, tree, request)
+    round(rt, card, tree, Request::Extract)
 }
 
 fn delete(
@@ -53,10 +49,7 @@ fn delete(
     label: Leaf,
     stamp: Stamp,
 ) -> io::Result<Card> {
-    let request = Request::Delete {
-        label: label,
-        stamp: stamp,
-    };
+    let request = Request::Delete { label, stamp };
     round(rt, card, tree, request)
 }
 

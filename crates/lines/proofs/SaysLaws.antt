@@ -1,45 +1,49 @@
 -- What a line of each kind says. Assumes nothing.
 use Prim.Native.Nat.{ℕ, ◌+◌, ◌≤◌, ◌<◌}
-use mathlib.Core.Bool.{Bool, true, false}
-use mathlib.Core.List.{List, [], ◌∷◌}
-use mathlib.Core.Path.{◌≡◌, refl, sym, ◌∙◌}
+use mathlib.Core.Bool.{true, false, cond, ◌&&◌}
+use mathlib.Core.List.{List, [], map}
+use mathlib.Core.Path.{◌≡◌, refl, ap}
 use native.Mathlib.Omega.{arith}
-use lib.Dec.{eqb-suc-zero}
+use lib.Dec.{eqb, ltb, eqb-suc-zero}
 use lib.ListN.{length, take, drop}
-use borrow.Author.Tests.{le-leb, lt-leb}
-use Rattle.lines.specs.declared.Line.TheVariants.{Unreadable, Min, Ask}
-use Rattle.request.specs.declared.Request.TheVariants.{Extract}
-use Rattle.fields.specs.Pieces.{before, same_bytes}
-use Rattle.fields.specs.Behind.{behind, all_numbers, Numbered}
+use borrow.Author.Tests.{ltb-true, ltb-false, le-leb, lt-leb}
+use Rattle.std.specs.Prelude.{Some, None}
+use Rattle.decimal.specs.Digits.{value}
+use Rattle.lines.specs.declared.Line.TheVariants.{Unreadable}
+use Rattle.fields.specs.Pieces.{before}
+use Rattle.fields.specs.Behind.{behind, all_numbers, numbered}
 use Rattle.fields.proofs.PiecesLaws.{before-fits, before_head, fields-first, behind-none, behind-next}
-use Rattle.fields.proofs.NumbersLaws.{all-written}
-use Rattle.lines.specs.Says.{Kind, kinds, min_kind, extract_kind, said_of, said_by, line_says}
+use Rattle.lines.specs.Says.{Kind, kinds, said_of, said_by, line_says}
 
 -- ---- a kind and the fields behind its word
-module _ (k : Kind) (fields : List (List ℕ)) (places after : List ℕ) (t : Bool) (n : Numbered fields places t after) (size : length places ≡ k.count) where
-  pub unsaid : t ≡ false → Unreadable ≡ said_of k fields
-  unfolding said_of
-  unsaid e = rw (← size, sym n.told ∙ e)
+module _ (k : Kind) (fields : List (List ℕ)) where
+  pub unsaid : None ≡ numbered k.count fields → Unreadable ≡ said_of k fields
+  unfolding numbered said_of
+  unsaid = (elim (eqb (length fields) k.count && all_numbers fields) as (λ t. None ≡ cond t (Some (map value fields)) None → Unreadable ≡ cond t (k.says (map value fields)) Unreadable) [
+    | true ↦ λ e. cc
+    | false ↦ λ e. refl
+  ])
 
-  pub said : t ≡ true → k.says after ≡ said_of k fields
-  unfolding said_of
-  said e = rw (← size, sym n.told ∙ e, n.these ∙ all-written fields places (sym n.told ∙ e))
+  pub said : (found : List ℕ) → Some found ≡ numbered k.count fields → k.says found ≡ said_of k fields
+  unfolding numbered said_of
+  said found = (elim (eqb (length fields) k.count && all_numbers fields) as (λ t. Some found ≡ cond t (Some (map value fields)) None → k.says found ≡ cond t (k.says (map value fields)) Unreadable) [
+    | true ↦ λ e.
+        let these : found ≡ map value fields = cc in
+        ap k.says these
+    | false ↦ λ e. cc
+  ])
 
 -- a word that stands alone
-module _ (line : List ℕ) (from : ℕ) where
-  pub min-alone : length line ≤ from → Min ≡ said_of min_kind (behind (drop from line))
-  unfolding said_of all_numbers
-  min-alone l = rw (behind-none line from l)
-
-  pub extract-alone : length line ≤ from → Ask Extract ≡ said_of extract_kind (behind (drop from line))
-  unfolding said_of all_numbers
-  extract-alone l = rw (behind-none line from l)
-
-  pub not-alone : (k : Kind) → k.count ≡ 0 → from < length line → Unreadable ≡ said_of k (behind (drop from line))
-  unfolding said_of
-  not-alone k e l =
+pub said-alone :
+    (line : List ℕ) (from : ℕ) (k : Kind) → k.count ≡ 0
+    → cond (ltb from (length line)) Unreadable (k.says []) ≡ said_of k (behind (drop from line))
+unfolding said_of all_numbers
+said-alone line from k e = (elim (ltb from (length line)) as (λ t. ltb from (length line) ≡ t → cond t Unreadable (k.says []) ≡ said_of k (behind (drop from line))) [
+  | true ↦ λ t.
       let more = behind (drop (from + 1 + length (before 32 (drop (from + 1) line))) line) in
-      rw (behind-next line from l, e, eqb-suc-zero (length more))
+      rw (behind-next line from (ltb-true _ _ t), e, eqb-suc-zero (length more))
+  | false ↦ λ t. rw (behind-none line from (ltb-false _ _ t), e)
+]) refl
 
 -- ---- a whole line
 module _ (line : List ℕ) where
@@ -57,16 +61,3 @@ module _ (line : List ℕ) where
     line-said l =
         let n : end ≡ length (before 32 line) = omega arith in
         rw (le-leb (length line) 128 l, fields-first line, n, before_head 32 line)
-
-module _ (k : Kind) (ks : List Kind) (word : List ℕ) (fields : List (List ℕ)) where
-  pub said-first : same_bytes word k.word ≡ true → said_by (k ∷ ks) word fields ≡ said_of k fields
-  unfolding said_by
-  said-first e = rw e
-
-  pub said-later : same_bytes word k.word ≡ false → said_by (k ∷ ks) word fields ≡ said_by ks word fields
-  unfolding said_by
-  said-later e = rw e
-
-pub unknown-word : (word : List ℕ) (fields : List (List ℕ)) → said_by [] word fields ≡ Unreadable
-unfolding said_by
-unknown-word word fields = refl

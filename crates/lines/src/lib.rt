@@ -7,6 +7,7 @@ use request::Request;
 pub use says::read_line;
 
 // What a line says. Leaves and stamps are as they were written: a number out of range is refused by the card.
+// Kept: one that cannot be read is a line too, and no Option of one: the desk answers it as it does the others.
 #[derive(Clone, Copy)]
 pub enum Line {
     Unreadable,

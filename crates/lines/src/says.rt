@@ -1,7 +1,7 @@
 // What a line says: document 01, "What the desk sees".
-ghost use Rattle.std.specs.Prelude.{◌≡◌, drop};
+ghost use Rattle.std.specs.Prelude.{◌≡◌, cond, ltb, length, drop};
 ghost use Rattle.fields.specs.Behind.{behind};
-ghost use Rattle.lines.specs.Says.{size_kind, insert_kind, min_kind, extract_kind, delete_kind, said_of, line_says};
+ghost use Rattle.lines.specs.Says.{size_kind, insert_kind, delete_kind, said_of, line_says};
 
 use crate::{LINE_MOST, Line};
 use fields::SPACE;
@@ -12,66 +12,50 @@ use request::Request;
 fn size(line: &[u8], from: usize) -> Line
     ensures { result ≡ said_of size_kind (behind (drop from line.now)) }
 {
-    let mut n = [0u64; 4];
-    if !fields::numbers(line, from, &mut n) {
+    let Some(found) = fields::numbers::<4>(line, from) else {
         return Line::Unreadable;
-    }
-    Line::Size {
-        h: n[0],
-        z: n[1],
-        r: n[2],
-        t: n[3],
-    }
+    };
+    let [h, z, r, t] = found;
+    Line::Size { h, z, r, t }
 }
 
 fn insert(line: &[u8], from: usize) -> Line
     ensures { result ≡ said_of insert_kind (behind (drop from line.now)) }
 {
-    let mut n = [0u64; 5];
-    if !fields::numbers(line, from, &mut n) {
+    let Some(found) = fields::numbers::<5>(line, from) else {
         return Line::Unreadable;
-    }
-    let request = Request::Insert {
-        key: n[0],
-        value: n[1],
-        label: Leaf(n[2]),
-        first: Leaf(n[3]),
-        second: Leaf(n[4]),
     };
-    Line::Ask(request)
+    let [key, value, label, first, second] = found;
+    Line::Ask(Request::Insert {
+        key,
+        value,
+        label: Leaf(label),
+        first: Leaf(first),
+        second: Leaf(second),
+    })
 }
 
 fn delete(line: &[u8], from: usize) -> Line
     ensures { result ≡ said_of delete_kind (behind (drop from line.now)) }
 {
-    let mut n = [0u64; 2];
-    if !fields::numbers(line, from, &mut n) {
+    let Some(found) = fields::numbers::<2>(line, from) else {
         return Line::Unreadable;
-    }
-    let request = Request::Delete {
-        label: Leaf(n[0]),
-        stamp: Stamp(n[1]),
     };
-    Line::Ask(request)
+    let [label, stamp] = found;
+    Line::Ask(Request::Delete {
+        label: Leaf(label),
+        stamp: Stamp(stamp),
+    })
 }
 
-fn min(line: &[u8], from: usize) -> Line
-    ensures { result ≡ said_of min_kind (behind (drop from line.now)) }
+// What a word says that stands alone.
+fn alone(line: &[u8], from: usize, says: Line) -> Line
+    ensures { result ≡ cond (ltb from (length line.now)) Line.Unreadable says }
 {
     if from < line.len() {
         return Line::Unreadable;
     }
-    Line::Min
-}
-
-fn extract(line: &[u8], from: usize) -> Line
-    ensures { result ≡ said_of extract_kind (behind (drop from line.now)) }
-{
-    if from < line.len() {
-        return Line::Unreadable;
-    }
-    let request = Request::Extract;
-    Line::Ask(request)
+    says
 }
 
 // What the bytes of a line, without its end, say.
@@ -90,10 +74,10 @@ pub fn read_line(line: &[u8]) -> Line
         return insert(line, end);
     }
     if fields::same(word, b"min") {
-        return min(line, end);
+        return alone(line, end, Line::Min);
     }
     if fields::same(word, b"extract") {
-        return extract(line, end);
+        return alone(line, end, Line::Ask(Request::Extract));
     }
     if fields::same(word, b"delete") {
         return delete(line, end);

@@ -10,12 +10,6 @@ use request::Request;
 use std::io;
 use std::io::Read;
 
-fn show(rt: &impl Print, numbers: &[u64]) -> io::Result<()> {
-    let mut out = [0u8; 128];
-    let n = frames::print_answer(numbers, &mut out);
-    rt.write_all(&out[..n])
-}
-
 fn ask(rt: &impl Print, request: Request) -> io::Result<()> {
     match request {
         Request::Insert {
@@ -24,17 +18,17 @@ fn ask(rt: &impl Print, request: Request) -> io::Result<()> {
             label,
             first,
             second,
-        } => show(rt, &[2, key, value, label.0, first.0, second.0]),
-        Request::Extract => show(rt, &[4]),
-        Request::Delete { label, stamp } => show(rt, &[5, label.0, stamp.0]),
+        } => println!(rt; "2 {key} {value} {} {} {}", label.0, first.0, second.0),
+        Request::Extract => println!(rt; "4"),
+        Request::Delete { label, stamp } => println!(rt; "5 {} {}", label.0, stamp.0),
     }
 }
 
 fn say(rt: &impl Print, line: &[u8]) -> io::Result<()> {
     match lines::read_line(line) {
-        Line::Unreadable => rt.write_all(b"?\n"),
-        Line::Size { h, z, r, t } => show(rt, &[1, h, z, r, t]),
-        Line::Min => show(rt, &[3]),
+        Line::Unreadable => println!(rt; "?"),
+        Line::Size { h, z, r, t } => println!(rt; "1 {h} {z} {r} {t}"),
+        Line::Min => println!(rt; "3"),
         Line::Ask(request) => ask(rt, request),
     }
 }
@@ -46,6 +40,7 @@ fn feed(rt: &impl Print, buffer: &mut [u8], before: usize, chunk: &[u8]) -> io::
 {
     let mut held = before;
     let mut from = 0;
+    // Kept: `take_line` says where the next byte stands, so nothing here counts.
     while from < chunk.len() {
         let taken = frames::take_line(buffer, held, chunk, from);
         from = taken.next;

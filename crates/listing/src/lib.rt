@@ -18,16 +18,8 @@ pub fn list_for(sizes: Sizes, job: Job, list: &mut [u64]) -> Listed
     ensures { Names (list_for sizes.h job) list.old list.new result }
 {
     match job {
-        Job::Path {
-            leaf,
-            label: _,
-            stamp: _,
-        } => lists::list_path(sizes, leaf, list),
-        Job::Pair {
-            first,
-            second,
-            new: _,
-        } => lists::list_pair(sizes, first, second, list),
+        Job::Path { leaf, .. } => lists::list_path(sizes, leaf, list),
+        Job::Pair { first, second, .. } => lists::list_pair(sizes, first, second, list),
     }
 }
 
@@ -37,16 +29,8 @@ fn counts_for(sizes: Sizes, job: Job) -> Listed
     ensures { result ≡ counts (list_for sizes.h job) }
 {
     match job {
-        Job::Path {
-            leaf: _,
-            label: _,
-            stamp: _,
-        } => lists::path_counts(sizes),
-        Job::Pair {
-            first: _,
-            second: _,
-            new: _,
-        } => lists::pair_counts(sizes),
+        Job::Path { .. } => lists::path_counts(sizes),
+        Job::Pair { .. } => lists::pair_counts(sizes),
     }
 }
 

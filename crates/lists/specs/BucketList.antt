@@ -46,6 +46,10 @@ pub record Room (h q from at n : ℕ) : Type 0 where
   pub level : from ≤ h + 1
   pub room : at + (h + 1 - from) ≤ n
 
+-- what a function of buckets gives at each of them
+abbrev pub Gives : {F : Type 0} → (F → Bucket → Bucket → Type 0) → F → (Bucket → Bucket) → Type 0
+Gives post f g = (b r : Bucket) → b.0 < 2 ^ 64 → post f b r → r ≡ g b
+
 -- "with how many are whole and how many are least-record only"
 abbrev pub counts : BucketList → Listed
 counts l = record { whole = length l.whole; least = length l.least }

@@ -5,14 +5,15 @@
 #![tactic(auto)]
 
 ghost use Rattle.std.specs.Prelude.{◌≡◌, map, ◌≤◌, ◌<◌, ◌^◌, length};
+ghost use Rattle.record.specs.declared.Bucket.{Bucket};
 ghost use Rattle.path.specs.Path.{path, sibling_of, number};
-ghost use Rattle.lists.specs.BucketList.{pair_list, path_list, pair_counts, path_counts, numbers, laid_from, Names, Room, moved};
+ghost use Rattle.lists.specs.BucketList.{pair_list, path_list, pair_counts, path_counts, numbers, laid_from, Names, Room, Gives, moved};
 
 use path::{Sizes, sibling};
-use record::{Leaf, RECORD_WORDS};
+use record::{Bucket, Leaf, RECORD_WORDS};
 
 // How many buckets of a list are whole, and how many of the numbers after them are for the least record only.
-#[derive(Clone, Copy)]
+#[derive(Clone, Copy, PartialEq, Eq)]
 pub struct Listed {
     pub whole: usize,
     pub least: usize,
@@ -21,21 +22,14 @@ pub struct Listed {
 const LEAST_WORDS: u64 = RECORD_WORDS as u64;
 
 impl Listed {
-    // For crates above: the words moved for such a list, counted bucket by bucket: a whole bucket is fetched and
-    // stored, of a sibling the least record is fetched.
+    // For crates above: the words moved for such a list: a whole bucket is fetched and stored, of a sibling the least
+    // record is fetched.
     pub fn words_moved(self, z: u64) -> u64
         requires { (z ≤ 5) × ((self.whole ≤ 32) × (self.least ≤ 32)) }
         ensures { result ≡ moved z self }
     {
         let bucket = LEAST_WORDS * (z + 1);
-        let mut words = 0;
-        for _ in 0..self.whole {
-            words += 2 * bucket;
-        }
-        for _ in 0..self.least {
-            words += LEAST_WORDS;
-        }
-        words
+        self.whole as u64 * (2 * bucket) + self.least as u64 * LEAST_WORDS
     }
 }
 
@@ -60,19 +54,30 @@ pub fn path_counts(sizes: Sizes) -> Listed
     Listed { whole: h, least: h }
 }
 
-// Names the path's buckets from a level down to the leaf, from a place of the list on.
+// Names what `of` makes of the path's buckets, from a level down to the leaf, from a place of the list on.
+fn name<F: Fn(Bucket) -> Bucket>(
+    sizes: Sizes,
+    leaf: Leaf,
+    from: u64,
+    list: &mut [u64],
+    at: usize,
+    of: F,
+)
+    requires callable { F.IsAlwaysCallable of }
+    requires room { Room sizes.h leaf.0 from at (length list.old) }
+    ensures { (g : Bucket → Bucket) → Gives F.post of g → list.new ≡ laid_from at (map number (map g (path sizes.h leaf from))) list.old }
+{
+    for level in from..=sizes.h {
+        list[at + (level - from) as usize] = of(sizes.bucket_at(leaf, level)).0;
+    }
+}
+
+// Names the path's buckets.
 fn name_path(sizes: Sizes, leaf: Leaf, from: u64, list: &mut [u64], at: usize)
     requires { Room sizes.h leaf.0 from at (length list.old) }
     ensures { list.new ≡ laid_from at (map number (path sizes.h leaf from)) list.old }
 {
-    let h = sizes.h;
-    let mut level = from;
-    let mut i = at;
-    while level <= h {
-        list[i] = sizes.bucket_at(leaf, level).0;
-        i += 1;
-        level += 1;
-    }
+    name(sizes, leaf, from, list, at, |bucket| bucket);
 }
 
 // Names the siblings of these buckets.
@@ -80,14 +85,7 @@ fn name_siblings(sizes: Sizes, leaf: Leaf, from: u64, list: &mut [u64], at: usiz
     requires { Room sizes.h leaf.0 from at (length list.old) }
     ensures { list.new ≡ laid_from at (map number (map sibling_of (path sizes.h leaf from))) list.old }
 {
-    let h = sizes.h;
-    let mut level = from;
-    let mut i = at;
-    while level <= h {
-        list[i] = sibling(sizes.bucket_at(leaf, level)).0;
-        i += 1;
-        level += 1;
-    }
+    name(sizes, leaf, from, list, at, |bucket| sibling(bucket));
 }
 
 // For crates above: Insert's list, the first path, the second, then the siblings of each from level 2 on.

@@ -16,13 +16,11 @@ pub fn with_card<F: FnOnce(&mut Card) -> Answer>(mut card: Card, call: F) -> Don
     ensures { LeavesCard (F.post call) card result }
 {
     let answer = call(&mut card);
-    Done {
-        card: card,
-        answer: answer,
-    }
+    Done { card, answer }
 }
 
 // With four plain parameters.
+// Kept: by `with_card` and a closure that holds the four it would ask that each of them may be dropped.
 pub fn with_four<A, B, C, D, F: FnOnce(&mut Card, A, B, C, D) -> Answer>(
     mut card: Card,
     a: A,
@@ -35,13 +33,11 @@ pub fn with_four<A, B, C, D, F: FnOnce(&mut Card, A, B, C, D) -> Answer>(
     ensures { LeavesCard (λ k r k'. F.post call k a b c d r k') card result }
 {
     let answer = call(&mut card, a, b, c, d);
-    Done {
-        card: card,
-        answer: answer,
-    }
+    Done { card, answer }
 }
 
 // With a lent slice.
+// Kept: a closure that held the slice would not say what it leaves there, since a call that is made once leaves no state.
 pub fn with_slice<F: FnOnce(&mut Card, &mut [u64]) -> Answer>(
     mut card: Card,
     words: &mut [u64],
@@ -51,13 +47,11 @@ pub fn with_slice<F: FnOnce(&mut Card, &mut [u64]) -> Answer>(
     ensures { LeavesBoth (F.post call) card words.old result words.new }
 {
     let answer = call(&mut card, words);
-    Done {
-        card: card,
-        answer: answer,
-    }
+    Done { card, answer }
 }
 
 // With one plain parameter and a lent slice.
+// Kept: by the law above and a closure that holds the parameter it would ask that this may be dropped.
 pub fn with_one_and_slice<A, F: FnOnce(&mut Card, A, &mut [u64]) -> Answer>(
     mut card: Card,
     a: A,
@@ -68,10 +62,7 @@ pub fn with_one_and_slice<A, F: FnOnce(&mut Card, A, &mut [u64]) -> Answer>(
     ensures { LeavesBoth (λ k w. F.post call k a w) card words.old result words.new }
 {
     let answer = call(&mut card, a, words);
-    Done {
-        card: card,
-        answer: answer,
-    }
+    Done { card, answer }
 }
 
 #[cfg(test)]
@@ -95,25 +86,13 @@ mod tests {
             |_k: Card, h: u64, z: u64, r: u64, t: u64| Card::start(h, z, r, t),
         );
         assert!(rt; matches!(started, Answer::Started), "a start");
-        let least = shapes::of_card(&mut card, |k: Card| k.find_min());
+        let least = shapes::of_card(&mut card, Card::find_min);
         assert!(rt; matches!(least, Answer::Refused(8)), "a look at the least");
-        let finished = shapes::of_card_and_slice(
-            &mut card,
-            &mut words,
-            |k: Card, w: &mut [u64]| k.finish(w),
-        );
+        let finished = shapes::of_card_and_slice(&mut card, &mut words, Card::finish);
         assert!(rt; matches!(finished, Answer::Refused(3)), "a finish");
-        let begun = shapes::of_one_and_slice(
-            &mut card,
-            Request::Extract,
-            &mut words,
-            |k: Card, r: Request, w: &mut [u64]| k.begin(r, w),
-        );
+        let begun = shapes::of_one_and_slice(&mut card, Request::Extract, &mut words, Card::begin);
         assert!(rt; matches!(begun, Answer::Refused(8)), "a begin");
-        let withdrawn = super::with_card(
-            card,
-            |k: &mut Card| shapes::of_card(k, |c: Card| c.withdraw()),
-        );
+        let withdrawn = super::with_card(card, |k: &mut Card| shapes::of_card(k, Card::withdraw));
         assert!(rt;
             matches!(withdrawn.answer, Answer::Refused(3)),
             "a withdrawal"

@@ -1,12 +1,13 @@
 -- ExtractMin's and Delete's fetched words: what the checks are lent is what was fetched, so that their verdict is the paper's.
 -- Assumes nothing.
 use Prim.Native.Nat.{ℕ, ◌+◌, ◌*◌, ◌-◌, ◌≤◌}
-use mathlib.Core.Bool.{Bool}
+use mathlib.Core.Bool.{Bool, cond}
 use mathlib.Core.List.{List}
 use mathlib.Core.Path.{◌≡◌, refl, ap, ◌∙◌}
 use native.Mathlib.Omega.{arith}
 use lib.ListN.{length, take}
 use lib.Seq.{length-take-le}
+use Rattle.std.specs.Prelude.{Result, Ok}
 use Rattle.record.specs.declared.Leaf.{Leaf}
 use Rattle.record.specs.declared.Record.{Record}
 use Rattle.record.specs.declared.Rule.{Rule}
@@ -20,6 +21,9 @@ use Rattle.sound.specs.Fetched.{fetched_in, path_fetched}
 use Rattle.damage.specs.Damaged.{path_damaged}
 use Rattle.damage.proofs.FetchedLaws.{Alike, path-alike}
 use Rattle.parts.specs.Parts.{parts_for, rule_of}
+use Rattle.settle.specs.declared.Damaged.{Damaged}
+use Rattle.settle.specs.Left.{path_bad}
+use Rattle.settle.specs.Settled.{unsettled}
 use Rattle.shown.specs.PathShown.{PathShown}
 use Rattle.look.specs.Look.{PathLookRoom, PathLooks}
 
@@ -52,12 +56,11 @@ module _ (s : Sizes) (q : Leaf) (ws w₀ sibs₀ : List ℕ) (room : PathLookRoo
 
   pub path-looks : (t c : ℕ) (least : Record) (rule : Rule) → rule ≡ rule_of (parts_for s t c least) → (x : Bool)
       → x ≡ path_damaged s.h s.r rule least (fetched_in s.z q (take k ws) sibs) (records w)
-      → PathLooks (parts_for s t c least) root ws q w sibs (record { moved = moved; damaged = x })
-  path-looks t c least rule told x v =
-      record {
-        shown = shown;
-        verdict =
-            rw (← told) (v
-            ∙ path-alike s.h s.r room.sizes.height.0 rule least (records w) _ _ lent
-            ∙ ap (path_damaged s.h s.r rule least (path_fetched s.h s.z q ws)) shown.way);
-      }
+      → (out : Result ℕ Damaged) → out ≡ cond x unsettled (Ok moved)
+      → PathLooks (parts_for s t c least) root ws q w sibs out
+  path-looks t c least rule told x v out e =
+      let verdict : x ≡ path_bad (parts_for s t c least) root ws q =
+      rw (← told) (v
+      ∙ path-alike s.h s.r room.sizes.height.0 rule least (records w) _ _ lent
+      ∙ ap (path_damaged s.h s.r rule least (path_fetched s.h s.z q ws)) shown.way) in
+      record { way = shown.way; siblings = shown.siblings; verdict = rw (← verdict, ← shown.counted) e }

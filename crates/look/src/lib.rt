@@ -8,16 +8,10 @@ ghost use Rattle.look.specs.Look.{PathLookRoom, PathLooks, PairLookRoom, PairLoo
 use parts::Parts;
 use path::ROOT_PLACES;
 use record::{Leaf, RECORD_WORDS, Record};
-use settle::{SIBLINGS_MOST, WAYS_MOST, path_words, way_words};
+use settle::{Damaged, SIBLINGS_MOST, WAYS_MOST, path_words, way_words};
 
-// What a look tells: the words moved for the siblings, and whether what was fetched is Damaged.
-#[derive(Clone, Copy)]
-pub struct Looked {
-    pub moved: u64,
-    pub damaged: bool,
-}
-
-// For crates above: the one path of ExtractMin and Delete. The way is left in `w` and its siblings in `sibs`, for the work.
+// For crates above: the one path of ExtractMin and Delete. The way is left in `w` and its siblings in `sibs`, for the work;
+// told are the words moved for the siblings.
 pub fn look_path(
     words: &[u64],
     w: &mut [u64],
@@ -25,14 +19,14 @@ pub fn look_path(
     root: [Record; ROOT_PLACES],
     parts: Parts,
     leaf: Leaf,
-) -> Looked
+) -> Result<u64, Damaged>
     requires { PathLookRoom parts.sizes leaf words.now w.old sibs.old }
     ensures { PathLooks parts root words.now leaf w.new sibs.new result }
 {
     let sizes = parts.sizes;
     let moved = shown::show_path(w, sibs, root, words, sizes);
     let buckets = path_words(sizes);
-    let damaged = damage::path_damaged(
+    if damage::path_damaged(
         &words[0..buckets],
         sibs,
         w,
@@ -40,15 +34,15 @@ pub fn look_path(
         leaf,
         parts.rule(),
         parts.least,
-    );
-    Looked {
-        moved: moved,
-        damaged: damaged,
+    ) {
+        return Err(Damaged);
     }
+    Ok(moved)
 }
 
 // For crates above: Insert's two paths. The first path's way is left in `w` and its siblings in `beside`, for the work; the
-// second path's siblings, and the slots of both paths together, are needed here alone.
+// second path's siblings, and the slots of both paths together, are needed here alone. Told are the words moved for the siblings
+// of both.
 pub fn look_pair(
     words: &[u64],
     w: &mut [u64],
@@ -57,7 +51,7 @@ pub fn look_pair(
     parts: Parts,
     first: Leaf,
     second: Leaf,
-) -> Looked
+) -> Result<u64, Damaged>
     requires { PairLookRoom parts.sizes first second words.now w.old beside.old }
     ensures { PairLooks parts root words.now first second w.new beside.new result }
 {
@@ -72,7 +66,7 @@ pub fn look_pair(
     let moved = shown::show_pair(w, beside, others, all, root, words, sizes);
     let half = path_words(sizes);
     let whole = half + half;
-    let damaged = damage::pair_damaged(
+    if damage::pair_damaged(
         &words[0..half],
         &words[half..whole],
         beside,
@@ -83,9 +77,8 @@ pub fn look_pair(
         second,
         parts.rule(),
         parts.least,
-    );
-    Looked {
-        moved: moved,
-        damaged: damaged,
+    ) {
+        return Err(Damaged);
     }
+    Ok(moved)
 }

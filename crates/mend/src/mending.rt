@@ -26,11 +26,10 @@ pub fn mend_path(path: &mut [u64], w: &[u64], beside: &[u64], sizes: Sizes, leaf
 {
     let z = sizes.z as usize;
     let size = RECORD_WORDS * z;
-    let mut level = sizes.h;
     let mut last = w.len();
     let mut end = path.len();
     let mut least = Record::DUMMY;
-    while level > 0 {
+    for level in (1..=sizes.h).rev() {
         let first = last - size;
         let start = end - size - RECORD_WORDS;
         let slots = &w[first..last];
@@ -38,7 +37,6 @@ pub fn mend_path(path: &mut [u64], w: &[u64], beside: &[u64], sizes: Sizes, leaf
         write_bucket(&mut path[start..end], own, slots);
         let other = Record::read(beside, level as usize - 1);
         least = least::kids_least(sizes.bucket_at(leaf, level), own, other);
-        level -= 1;
         last = first;
         end = start;
     }

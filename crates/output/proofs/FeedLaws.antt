@@ -10,8 +10,7 @@ use lib.Seq.{length-take-le, take_at, drop_at, drop-drop, take_all}
 use borrow.Author.Tests.{ltb-false, leb-false}
 use Rattle.fields.specs.Pieces.{before}
 use Rattle.lines.specs.Says.{line_says}
-use Rattle.steps.specs.declared.Desk.{Desk}
-use Rattle.steps.specs.Step.{step_of}
+use Rattle.steps.specs.Step.{Desk, step_of}
 use Rattle.replies.specs.declared.Printed.{Printed}
 use Rattle.replies.specs.Reply.{Prints}
 use Rattle.decimal.proofs.PrintLaws.{laid-in-room}

@@ -4,4 +4,3 @@ pub mod ShortLaws
 pub mod TakenLaws
 pub mod HeardLaws
 pub mod FeedLaws
-pub mod ClearLaws

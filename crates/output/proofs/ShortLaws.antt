@@ -6,12 +6,11 @@ use mathlib.Core.Path.{◌≡◌}
 use native.Mathlib.Omega.{arith}
 use lib.Dec.{ltb}
 use lib.ListN.{length, length-append}
+use Rattle.std.specs.Prelude.{Option, Some, None}
 use Rattle.decimal.specs.Digits.{fewest, decimal}
 use Rattle.frames.specs.Answer.{mark_of, answer_line}
 use Rattle.answers.specs.declared.Answer.{Answer}
 use Rattle.answers.specs.declared.Answer.TheVariants.{Started, Listed, Least, Withdrawn, Inserted, Extracted, Deleted, Refused}
-use Rattle.steps.specs.declared.Reply.{Reply}
-use Rattle.steps.specs.declared.Reply.TheVariants.{Unreadable, Said}
 use Rattle.said.specs.Said.{numbers_of}
 use Rattle.replies.specs.Reply.{bytes_of}
 use Rattle.decimal.proofs.PrintLaws.{decimal-length}
@@ -47,7 +46,7 @@ zero-short ns l = omega (arith, next-long 0 ns, zero_one, numbers-short ns)
 
 answer-short : (a : Answer) → length (answer_line (numbers_of a)) ≤ reply_most
 answer-short Started = zero-short [] (omega arith)
-answer-short (Listed whole least) = zero-short [] (omega arith)
+answer-short (Listed n) = zero-short [] (omega arith)
 answer-short (Least r words) = zero-short (r.key ∷ r.value ∷ r.label.0 ∷ r.stamp.0 ∷ words ∷ []) (omega arith)
 answer-short Withdrawn = zero-short [] (omega arith)
 answer-short (Inserted label stamp words) = zero-short (label.0 ∷ stamp.0 ∷ words ∷ []) (omega arith)
@@ -55,6 +54,6 @@ answer-short (Extracted r words) = zero-short (r.key ∷ r.value ∷ r.label.0 �
 answer-short (Deleted found words) = zero-short (cond found 1 0 ∷ words ∷ []) (omega arith)
 answer-short (Refused number) = omega (arith, numbers-short (number ∷ []))
 
-pub reply-short : (r : Reply) → length (bytes_of r) ≤ reply_most
-reply-short Unreadable = omega arith
-reply-short (Said a) = answer-short a
+pub reply-short : (r : Option Answer) → length (bytes_of r) ≤ reply_most
+reply-short None = omega arith
+reply-short (Some a) = answer-short a

@@ -1,10 +1,8 @@
 -- What the desk prints for an input: document 01, "The desk program reads lines and plays both sides", "Input, then whole
 -- output". Assumes nothing.
-use Rattle.std.specs.Prelude.{ℕ, false, List, [], ◌∷◌, ◌++◌, replicate}
-use Rattle.card.specs.Calls.{zero_card}
+use Rattle.std.specs.Prelude.{ℕ, None, List, [], ◌∷◌, ◌++◌, replicate}
 use Rattle.lines.specs.Says.{lines_of, line_says}
-use Rattle.steps.specs.declared.Desk.{Desk}
-use Rattle.steps.specs.Step.{LineLeft, step_of}
+use Rattle.steps.specs.Step.{Desk, LineLeft, step_of}
 use Rattle.replies.specs.Reply.{bytes_of}
 
 -- the desk between two lines, and the words that are lent to it
@@ -38,7 +36,7 @@ output_of s input = replies_to s (lines_of input)
 
 -- the desk before the first line, with 8,192 words lent
 abbrev pub shut : Desk
-shut = record { sized = false; card = zero_card }
+shut = None
 
 abbrev pub opened : State
 opened = record { desk = shut; tree = replicate 8192 0 }

@@ -21,9 +21,7 @@ pub fn goes_on(taken: usize, bytes: usize, room: usize) -> bool
 pub fn clear(bytes: &mut [u8], from: usize)
     ensures { bytes.new ≡ take from bytes.old ++ replicate (length bytes.old - from) 0 }
 {
-    let mut i = from;
-    while i < bytes.len() {
-        bytes[i] = 0;
-        i += 1;
+    if from < bytes.len() {
+        bytes[from..].fill(0);
     }
 }

@@ -34,8 +34,7 @@ pub fn work_pair(
     ensures { (rule : Rule) → PairWorked rule sizes first second new (beside_at (records beside.old)) (second_siblings sizes words.now) (records w.old) (slots_shown sizes.z words.now sizes.h sizes.h) w.new first_path.new second_path.new result }
 {
     let h = sizes.h as usize;
-    let r = sizes.r as usize;
-    seat(w, r, new);
+    seat(w, sizes.r as usize, new);
     work_path(w, beside, first_path, sizes, first);
     gather::load_path(w, words, h, sizes);
     gather::load_siblings(beside, words, 2 * h, h - 1, 2, sizes);

@@ -1,5 +1,5 @@
 -- Lines played one after another, and what is looked at behind each: document 01, "Input, then whole output". Assumes nothing.
-use Rattle.std.specs.Prelude.{ℕ, List, [], ◌∷◌, ◌++◌, replicate, drop}
+use Rattle.std.specs.Prelude.{ℕ, Some, None, List, [], ◌∷◌, ◌++◌, replicate, drop}
 use Rattle.path.specs.Path.{bucket}
 use Rattle.path.specs.Layout.{record_words}
 use Rattle.lists.specs.BucketList.{counts, numbers}
@@ -7,7 +7,7 @@ use Rattle.copies.specs.Copy.{bucket_part}
 use Rattle.request.specs.declared.Request.{Request}
 use Rattle.card.specs.Calls.{list_of}
 use Rattle.lines.specs.Says.{line_says}
-use Rattle.steps.specs.Step.{LineLeft, nothing, step_of}
+use Rattle.steps.specs.Step.{Desk, LineLeft, nothing, step_of}
 use Rattle.replies.specs.Reply.{bytes_of}
 use Rattle.output.specs.Output.{shut}
 
@@ -56,9 +56,13 @@ slots_of_bucket n l = drop record_words (bucket_part 1 l.tree (bucket n))
 abbrev pub slots_of_both : ℕ → ℕ → LineLeft → List ℕ
 slots_of_both m n l = slots_of_bucket m l ++ slots_of_bucket n l
 
--- how many buckets a request asks for whole and how many for least records, and their numbers
+-- how many buckets a request asks for whole and how many for least records, and their numbers; nothing on a desk with no card
+abbrev pub asked_by : Desk → Request → List ℕ
+asked_by None w = []
+asked_by (Some k) w =
+    (counts (list_of k w)).whole
+    ∷ (counts (list_of k w)).least
+    ∷ numbers (list_of k w)
+
 abbrev pub asks_for : Request → LineLeft → List ℕ
-asks_for w l =
-    (counts (list_of l.turn.desk.card w)).whole
-    ∷ (counts (list_of l.turn.desk.card w)).least
-    ∷ numbers (list_of l.turn.desk.card w)
+asks_for w l = asked_by l.turn.desk w

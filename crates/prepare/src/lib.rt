@@ -11,7 +11,7 @@ ghost use Rattle.prepare.specs.Prepared.{PairPrepared};
 use parts::Parts;
 use path::ROOT_PLACES;
 use record::{Leaf, RECORD_WORDS, Record};
-use settle::{SIBLINGS_MOST, Settled, WAY_MOST, judged, unsettled, way_words};
+use settle::{Damaged, SIBLINGS_MOST, Settled, WAY_MOST, judged, way_words};
 
 // For crates above: the paths' buckets are laid in `one` and `two`, unless what was fetched is Damaged. The words moved so far
 // are the siblings'.
@@ -24,7 +24,7 @@ pub fn prepare_insertion(
     first: Leaf,
     second: Leaf,
     new: Record,
-) -> Settled
+) -> Result<Settled, Damaged>
     requires { (InsertionRoom parts first second words.now) × ((length one.old ≡ parts.sizes.h * bucket_words parts.sizes.z) × (length two.old ≡ parts.sizes.h * bucket_words parts.sizes.z)) }
     ensures { PairPrepared parts root words.now first second new one.old two.old one.new two.new result }
 {
@@ -36,19 +36,15 @@ pub fn prepare_insertion(
     let mut sibs = [0u64; SIBLINGS_MOST];
     let w = &mut way[0..slots];
     let beside = &mut sibs[0..siblings];
-    let seen = look::look_pair(words, w, beside, root, parts, first, second);
-    if seen.damaged {
-        return unsettled(root, parts);
-    }
-    let next_least = pair::work_pair(w, beside, one, two, words, new, sizes, first, second);
-    let next_root = gather::save_root(w, root, sizes.r as usize);
+    let moved = look::look_pair(words, w, beside, root, parts, first, second)?;
+    let least = pair::work_pair(w, beside, one, two, words, new, sizes, first, second);
+    let root = gather::save_root(w, root, sizes.r as usize);
     let next = Settled {
-        root: next_root,
-        least: next_least,
+        root,
+        least,
         c: parts.c + 1,
         found: false,
-        moved: seen.moved,
-        damaged: false,
+        moved,
     };
-    judged(root, parts, next)
+    judged(parts, next)
 }

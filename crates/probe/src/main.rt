@@ -5,17 +5,21 @@
 // `image`, `told` and `driver`.
 #![tactic(auto)]
 
+mod ended;
 mod frame;
-mod play;
+mod op;
 mod words;
 
+use ended::Ended;
 use std::io;
 
 // A proved loop has to end, and nothing says that the input does: the turns are counted up to a number that no run uses up.
 fn main(rt: HostRuntime) -> io::Result<()> {
     for _ in 0..u64::MAX {
-        if !frame::answer_one(&rt)? {
-            break;
+        match frame::answer_one(&rt) {
+            Ok(()) => {}
+            Err(Ended::NoFrame) => break,
+            Err(Ended::Failed(error)) => return Err(error),
         }
     }
     Ok(())

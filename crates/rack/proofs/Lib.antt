@@ -1,5 +1,4 @@
 -- The laws of the rack that crates above cite.
 pub mod RefusalLaws
-pub mod AnswerLaws
 pub mod StandLaws
 pub mod ListedLaws

@@ -1,47 +1,20 @@
 -- The refusals: what each test of the tables tells, and what stands fast where none applies. Assumes nothing.
-use Prim.Native.Nat.{ℕ, ◌+◌, ◌*◌, ◌-◌, ◌/◌, ◌≤◌, ◌<◌}
+use Prim.Native.Nat.{ℕ, ◌+◌, ◌*◌, ◌-◌, ◌≤◌, ◌<◌}
 use mathlib.Core.Bool.{true, false, ◌||◌}
-use mathlib.Core.List.{List}
-use mathlib.Core.Path.{◌≡◌, refl, sym}
+use mathlib.Core.List.{List, [], ◌∷◌, ◌++◌}
+use mathlib.Core.Path.{◌≡◌, refl, sym, ◌∙◌}
 use native.Mathlib.Omega.{arith}
-use native.Mathlib.Nat.{div-lt_iff_lt-mul, le-div_iff_mul-le}
-use native.Mathlib.Numerals.{add-one}
-use lib.Dec.{ltb}
-use lib.ListN.{length, take, drop, get_or, drop_of_length-le}
+use lib.Dec.{ltb, leb}
+use lib.ListN.{length, take}
 use lib.Pow.{pow_pos}
-use lib.Seq.{drop-cons, get_or-take, length-take-le}
-use borrow.Author.Tests.{ltb-true, ltb-false, lt-ltb, le-ltb, le-leb, lt-leb, eqb-true, eq-eqb, not-false}
+use borrow.Author.Tests.{ltb-true, ltb-false, leb-true, leb-false, lt-ltb, le-ltb, le-leb, lt-leb, eqb-true, eq-eqb, not-false}
+use Rattle.std.specs.List.{list_any}
 use Rattle.path.specs.Sizes.{between, leaves_of, tree_in}
-use Rattle.path.specs.Layout.{bucket_words, tree_words}
+use Rattle.path.specs.Layout.{tree_words}
 use Rattle.path.proofs.SizesLaws.{between-true}
-use Rattle.refusal.specs.Refusal.{first_given}
-use Rattle.refusal.proofs.RefusalLaws.{none-given}
+use Rattle.refusal.specs.Refusal.{Refusal, first_given}
+use Rattle.refusal.proofs.RefusalLaws.{none, next, Numbered, first-append, or-first, none-given}
 use Rattle.rack.specs.Answers.{bad_size, other_tree, over_counted, words_covered, few_words, outside, any_outside, fill_table, copy_table}
-
--- ---- words too few, by division
-same_test : (a b c d : ℕ) → (a < b → c < d) → (b ≤ a → d ≤ c) → ltb a b ≡ ltb c d
-same_test a b c d yes-too no-too = (elim (ltb a b) as (λ t. ltb a b ≡ t → t ≡ ltb c d) [
-  | true ↦ λ e. sym (lt-ltb c d (yes-too (ltb-true a b e)))
-  | false ↦ λ e. sym (le-ltb c d (no-too (ltb-false a b e)))
-]) refl
-
-module _ (z whole words : ℕ) where
-  some_words : 0 < bucket_words z
-  some_words = omega arith
-
-  pub whole-fit : whole ≤ words / bucket_words z → whole * bucket_words z ≤ words
-  whole-fit l = (le-div_iff_mul-le some_words).0 l
-
-  module _ (least : ℕ) where
-    pub few-for-whole : words / bucket_words z < whole → true ≡ few_words z whole least words
-    few-for-whole l =
-        let short = (div-lt_iff_lt-mul some_words).0 l in
-        sym (lt-ltb words (words_covered z whole least) (omega arith))
-
-    pub few-for-least :
-        whole * bucket_words z ≤ words → ltb ((words - whole * bucket_words z) / 4) least ≡ few_words z whole least words
-    few-for-least l =
-        same_test ((words - whole * bucket_words z) / 4) least words (words_covered z whole least) (omega arith) (omega arith)
 
 -- ---- numbers outside the tree
 module _ (h n : ℕ) where
@@ -65,21 +38,20 @@ module _ (h n : ℕ) where
       let some = pow_pos h in
       (b.0, omega arith)
 
--- the numbers from place i on, the first apart
-pub outside-next :
-    (h : ℕ) (list : List ℕ) (many i : ℕ) → many ≤ length list → i < many
-    → any_outside h (drop i (take many list)) ≡ outside h (get_or list i 0) || any_outside h (drop (i + 1) (take many list))
-unfolding any_outside
-outside-next h list many i l m =
-    let e = length-take-le many list l in
-    rw (drop-cons (take many list) i 0 (omega arith), get_or-take many list i 0 m, add-one)
+  tested : (ltb n 2 || leb (2 * leaves_of h) n) ≡ outside h n
+  tested = (elim (ltb n 2) as (λ t. ltb n 2 ≡ t → (t || leb (2 * leaves_of h) n) ≡ outside h n) [
+    | true ↦ λ e. sym (low-outside (ltb-true n 2 e))
+    | false ↦ λ e. (elim (leb (2 * leaves_of h) n) as (λ t. leb (2 * leaves_of h) n ≡ t → t ≡ outside h n) [
+      | true ↦ λ f. sym (high-outside (leb-true (2 * leaves_of h) n f))
+      | false ↦ λ f. sym (not-outside (ltb-false n 2 e) (leb-false (2 * leaves_of h) n f))
+    ]) refl
+  ]) refl
 
-pub none-outside :
-    (h : ℕ) (list : List ℕ) (many i : ℕ) → many ≤ length list → many ≤ i → any_outside h (drop i (take many list)) ≡ false
+-- the test of the code
+pub any-listed : (h : ℕ) (ns : List ℕ) → list_any (λ n. ltb n 2 || leb (2 * leaves_of h) n) ns ≡ any_outside h ns
 unfolding any_outside
-none-outside h list many i l m =
-    let e = length-take-le many list l in
-    rw (drop_of_length-le (take many list) {i = i} (omega arith))
+any-listed h [] = refl
+any-listed h (n ∷ ns) = rw (tested h n, any-listed h ns)
 
 -- ---- no refusal
 pub record TreePasses (h z tree : ℕ) : Type 0 where
@@ -129,6 +101,14 @@ module _ (h z tree : ℕ) where
           le-ltb words (words_covered z whole least) p.room,
           p.inside,
         )
+
+-- ---- the first refusal: the tree's, which fill has too
+pub tree-first :
+    (h z tree : ℕ) (rest : List Refusal) (n : ℕ) → (n ≡ 0 → ⊥) → n ≡ first_given (fill_table h z tree)
+    → n ≡ first_given (fill_table h z tree ++ rest)
+tree-first h z tree rest n some e =
+    let rows : Numbered (fill_table h z tree) = next 1 (omega arith) (next 11 (omega arith) none) in
+    e ∙ sym (first-append rest rows ∙ or-first _ _ (λ f. some (e ∙ f)))
 
 -- ---- the first refusal, where the tree is as it should be
 module _ {h z tree : ℕ} (p : TreePasses h z tree) (list : List ℕ) (whole least words : ℕ) where

@@ -1,21 +1,9 @@
--- What the rack answers, and when it refuses: document 01, "Refusal numbers". Assumes nothing.
+-- When the rack refuses: document 01, "Refusal numbers". Assumes nothing.
 use Rattle.std.specs.Prelude.{ℕ, ◌+◌, ◌*◌, ◌-◌, Bool, false, not, ◌||◌, List, [], ◌∷◌, ltb, eqb, length, take}
 use Rattle.path.specs.Sizes.{between, leaves_of, tree_in}
 use Rattle.path.specs.Layout.{tree_words}
 use Rattle.lists.specs.BucketList.{fetched_for}
-use Rattle.rack.specs.declared.Answer.{Answer}
-use Rattle.rack.specs.declared.Answer.TheVariants.{Done, BadSize, ShortRoom, BadBucket}
 use Rattle.refusal.specs.Refusal.{Refusal, row, first_given}
-
--- the paper's number of an answer; no refusal is 0
-abbrev pub answer_number : Answer → ℕ
-answer_number Done = 0
-answer_number BadSize = 1
-answer_number ShortRoom = 11
-answer_number BadBucket = 14
-
-abbrev pub is_done : Answer → Bool
-is_done a = eqb (answer_number a) 0
 
 -- BadSize: "a size is outside its range". The rack is given h and Z.
 abbrev pub bad_size : ℕ → ℕ → Bool

@@ -2,6 +2,7 @@
 ghost use Rattle.std.specs.Prelude.{◌+◌, ◌*◌, ◌≤◌, length};
 
 use crate::line;
+use refusal::number_of;
 use std::io;
 
 // The list of P12: four whole buckets, then two siblings.
@@ -10,7 +11,7 @@ pub(crate) const P12: [u64; 6] = [2, 5, 3, 6, 4, 7];
 pub(crate) fn fresh(rt: &impl Print) -> io::Result<()> {
     let mut tree = [7u64; 16];
     let done = rack::fill(&mut tree, 1, 1);
-    line::answer(rt, b"fill of height 1 with 1 slot:", done.number())?;
+    line::answer(rt, b"fill of height 1 with 1 slot:", number_of(done))?;
     line::parts(rt, b"bucket", &[2u64, 3], 8, &tree)
 }
 
@@ -27,14 +28,14 @@ fn fetch_lines(rt: &impl Print, list: &[u64], whole: usize, words: &[u64]) -> io
 
 pub(crate) fn fetched(rt: &impl Print) -> io::Result<()> {
     let mut tree = [7u64; 48];
-    rack::fill(&mut tree, 2, 1);
+    let _ = rack::fill(&mut tree, 2, 1);
     let list = P12;
     let mut words = [9u64; 44];
     let done = rack::fetch(2, 1, &tree, &list, 4, 2, &mut words);
     line::answer(
         rt,
         b"fetch of the list of P12 in a fresh tree:",
-        done.number(),
+        number_of(done),
     )?;
     fetch_lines(rt, &list, 4, &words)
 }
@@ -43,12 +44,8 @@ pub(crate) fn fetched(rt: &impl Print) -> io::Result<()> {
 fn number_from(words: &mut [u64], first: u64)
     requires { first + length words.old ≤ 1000 }
 {
-    let mut i = 0;
-    let mut n = first;
-    while i < words.len() {
-        words[i] = n;
-        n += 1;
-        i += 1;
+    for (i, word) in words.iter_mut().enumerate() {
+        *word = first + i as u64;
     }
 }
 
@@ -66,12 +63,12 @@ fn store_from(
     let mut words = [9u64; 44];
     number_from(&mut words, first);
     let done = rack::store(2, 1, tree, list, whole, least, &words);
-    line::answer(rt, text, done.number())
+    line::answer(rt, text, number_of(done))
 }
 
 pub(crate) fn stored(rt: &impl Print) -> io::Result<()> {
     let mut tree = [7u64; 48];
-    rack::fill(&mut tree, 2, 1);
+    let _ = rack::fill(&mut tree, 2, 1);
     let list = P12;
     store_from(
         rt,
@@ -94,7 +91,7 @@ fn fetched_again(rt: &impl Print, tree: &[u64]) -> io::Result<()> {
     line::answer(
         rt,
         b"fetch of 6 and 2 whole, of 5 the least record:",
-        done.number(),
+        number_of(done),
     )?;
     fetch_lines(rt, &list, 2, &words)
 }
@@ -110,6 +107,6 @@ fn fetched_twice(rt: &impl Print, tree: &[u64]) -> io::Result<()> {
     let list = [2u64, 2];
     let mut words = [9u64; 16];
     let done = rack::fetch(2, 1, tree, &list, 2, 0, &mut words);
-    line::answer(rt, b"fetch of bucket 2 twice:", done.number())?;
+    line::answer(rt, b"fetch of bucket 2 twice:", number_of(done))?;
     line::parts(rt, b"bucket", &list, 8, &words)
 }

@@ -1,5 +1,5 @@
 // A line of the output: a name, then its numbers.
-ghost use Rattle.std.specs.Prelude.{◌≤◌, length, IfOk};
+ghost use Rattle.std.specs.Prelude.{◌<◌};
 
 use std::io;
 
@@ -21,28 +21,10 @@ pub(crate) fn answer(rt: &impl Print, text: &[u8], n: u64) -> io::Result<()> {
     end(rt)
 }
 
-// The name that begins at a byte of some names, each with its line end; and where the next one begins.
-pub(crate) fn next_name(rt: &impl Print, names: &[u8], at: usize) -> io::Result<usize>
-    requires { at ≤ length names.now }
-    ensures { IfOk result (λ next. next ≤ length names.now) }
-{
-    let mut end = at;
-    while end < names.len() {
-        if names[end] == b'\n' {
-            name(rt, &names[at..end])?;
-            return Ok(end + 1);
-        }
-        end += 1;
-    }
-    Ok(end)
-}
-
 // The rest of a line: the numbers of a list.
 fn rest(rt: &impl Print, list: &[u64]) -> io::Result<()> {
-    let mut i = 0;
-    while i < list.len() {
-        number(rt, list[i])?;
-        i += 1;
+    for &n in list {
+        number(rt, n)?;
     }
     end(rt)
 }
@@ -65,17 +47,11 @@ pub(crate) fn parts(
     numbers: &[u64],
     size: usize,
     list: &[u64],
-) -> io::Result<()> {
-    let mut at = 0;
-    let mut i = 0;
-    while i < numbers.len() {
-        if list.len() - at < size {
-            return Ok(());
-        }
-        let next = at + size;
-        part(rt, text, numbers[i], &list[at..next])?;
-        at = next;
-        i += 1;
+) -> io::Result<()>
+    requires { 0 < size }
+{
+    for (&number, words) in numbers.iter().zip(list.chunks_exact(size)) {
+        part(rt, text, number, words)?;
     }
     Ok(())
 }

@@ -2,6 +2,7 @@
 // call is refused.
 use crate::copied::P12;
 use crate::line;
+use refusal::number_of;
 use std::io;
 
 const TOP: u64 = 18446744073709551615;
@@ -10,15 +11,7 @@ const HALF: u64 = 9223372036854775808;
 
 // How many of the words are not `n`.
 fn others(words: &[u64], n: u64) -> u64 {
-    let mut count = 0;
-    let mut i = 0;
-    while i < words.len() {
-        if words[i] != n {
-            count += 1;
-        }
-        i += 1;
-    }
-    count
+    words.iter().filter(|&&word| word != n).count() as u64
 }
 
 fn copy_in(
@@ -33,63 +26,32 @@ fn copy_in(
 ) -> io::Result<()> {
     let first = rack::fetch(h, z, tree, list, whole, least, words);
     let second = rack::store(h, z, tree, list, whole, least, words);
-    line::number(rt, first.number())?;
-    line::number(rt, second.number())?;
+    line::number(rt, number_of(first))?;
+    line::number(rt, number_of(second))?;
     line::number(rt, others(words, 9))?;
     line::number(rt, others(tree, 7))?;
     line::end(rt)
 }
 
-// A fetch and a store with a tree and words of these lengths.
-fn copy_line(
-    rt: &impl Print,
-    h: u64,
-    z: u64,
-    tree_words: usize,
-    list: &[u64],
-    whole: usize,
-    least: usize,
-    words: usize,
-) -> io::Result<()> {
+// A fetch and a store for these: h, Z, the tree's words, both counts and the words.
+fn copy_line(rt: &impl Print, text: &[u8], case: [u64; 6], list: &[u64]) -> io::Result<()> {
+    let [h, z, tree_words, whole, least, words] = case;
+    line::name(rt, text)?;
     let mut tree = [7u64; 64];
     let mut fetched = [9u64; 64];
-    if tree_words > 64 {
-        return Ok(());
-    }
-    if words > 64 {
+    if tree_words > 64 || words > 64 {
         return Ok(());
     }
     copy_in(
         rt,
         h,
         z,
-        &mut tree[..tree_words],
+        &mut tree[..tree_words as usize],
         list,
-        whole,
-        least,
-        &mut fetched[..words],
+        whole as usize,
+        least as usize,
+        &mut fetched[..words as usize],
     )
-}
-
-// A line for each name: h, Z, the tree's words, both counts and the words.
-fn table(rt: &impl Print, names: &[u8], cases: &[u64], list: &[u64]) -> io::Result<()> {
-    let mut at = 0;
-    let mut i = 0;
-    while i + 5 < cases.len() {
-        at = line::next_name(rt, names, at)?;
-        copy_line(
-            rt,
-            cases[i],
-            cases[i + 1],
-            cases[i + 2] as usize,
-            list,
-            cases[i + 3] as usize,
-            cases[i + 4] as usize,
-            cases[i + 5] as usize,
-        )?;
-        i += 6;
-    }
-    Ok(())
 }
 
 pub(crate) fn copies(rt: &impl Print) -> io::Result<()> {
@@ -106,50 +68,42 @@ pub(crate) fn copies(rt: &impl Print) -> io::Result<()> {
 }
 
 fn taken(rt: &impl Print, list: &[u64]) -> io::Result<()> {
-    table(
-        rt,
-        b"the list of P12:\nnothing asked for:\n",
-        &[2u64, 1, 48, 4, 2, 40, 2, 1, 48, 0, 0, 0],
-        list,
-    )
+    copy_line(rt, b"the list of P12:", [2, 1, 48, 4, 2, 40], list)?;
+    copy_line(rt, b"nothing asked for:", [2, 1, 48, 0, 0, 0], list)
 }
 
 fn sizes(rt: &impl Print, list: &[u64]) -> io::Result<()> {
-    table(
-        rt,
-        b"height 0:\nheight 17:\nheight 2^64 - 1:\nno slots:\n6 slots:\n",
-        &[
-            0u64, 1, 48, 4, 2, 40, 17, 1, 48, 4, 2, 40, TOP, 1, 48, 4, 2, 40, 2, 0, 48, 4, 2, 40,
-            2, 6, 48, 4, 2, 40,
-        ],
-        list,
-    )
+    copy_line(rt, b"height 0:", [0, 1, 48, 4, 2, 40], list)?;
+    copy_line(rt, b"height 17:", [17, 1, 48, 4, 2, 40], list)?;
+    copy_line(rt, b"height 2^64 - 1:", [TOP, 1, 48, 4, 2, 40], list)?;
+    copy_line(rt, b"no slots:", [2, 0, 48, 4, 2, 40], list)?;
+    copy_line(rt, b"6 slots:", [2, 6, 48, 4, 2, 40], list)
 }
 
 fn rooms(rt: &impl Print, list: &[u64]) -> io::Result<()> {
-    table(
+    copy_line(rt, b"a tree one word short:", [2, 1, 47, 4, 2, 40], list)?;
+    copy_line(rt, b"a tree one word long:", [2, 1, 49, 4, 2, 40], list)?;
+    copy_line(rt, b"one count too many:", [2, 1, 48, 4, 3, 44], list)?;
+    copy_line(
         rt,
-        b"a tree one word short:\na tree one word long:\none count too many:\nwhole 2^64 - 1 and least 2:\n",
-        &[
-            2u64, 1, 47, 4, 2, 40, 2, 1, 49, 4, 2, 40, 2, 1, 48, 4, 3, 44, 2, 1, 48, TOP, 2, 40,
-        ],
+        b"whole 2^64 - 1 and least 2:",
+        [2, 1, 48, TOP, 2, 40],
         list,
     )?;
-    table(
+    copy_line(
         rt,
-        b"whole 1 and least 2^64 - 1:\nboth counts 2^63:\nwords one short:\nwords for the whole only:\n",
-        &[
-            2u64, 1, 48, 1, TOP, 40, 2, 1, 48, HALF, HALF, 40, 2, 1, 48, 4, 2, 39, 2, 1, 48, 4, 2,
-            32,
-        ],
+        b"whole 1 and least 2^64 - 1:",
+        [2, 1, 48, 1, TOP, 40],
         list,
-    )
+    )?;
+    copy_line(rt, b"both counts 2^63:", [2, 1, 48, HALF, HALF, 40], list)?;
+    copy_line(rt, b"words one short:", [2, 1, 48, 4, 2, 39], list)?;
+    copy_line(rt, b"words for the whole only:", [2, 1, 48, 4, 2, 32], list)
 }
 
 // Two numbers, both whole.
 fn bucket_line(rt: &impl Print, text: &[u8], list: &[u64]) -> io::Result<()> {
-    line::name(rt, text)?;
-    copy_line(rt, 2, 1, 48, list, 2, 0, 16)
+    copy_line(rt, text, [2, 1, 48, 2, 0, 16], list)
 }
 
 fn buckets(rt: &impl Print) -> io::Result<()> {
@@ -160,31 +114,28 @@ fn buckets(rt: &impl Print) -> io::Result<()> {
 }
 
 fn siblings(rt: &impl Print, list: &[u64]) -> io::Result<()> {
-    table(
-        rt,
-        b"a sibling 8:\n8 past the counts:\n",
-        &[2u64, 1, 48, 4, 2, 40, 2, 1, 48, 4, 1, 40],
-        list,
-    )
+    copy_line(rt, b"a sibling 8:", [2, 1, 48, 4, 2, 40], list)?;
+    copy_line(rt, b"8 past the counts:", [2, 1, 48, 4, 1, 40], list)
 }
 
 // Two that apply at once: the earlier in the paper's order is given.
 fn pairs(rt: &impl Print, list: &[u64]) -> io::Result<()> {
-    table(
+    copy_line(rt, b"1 before 11:", [0, 1, 47, 4, 1, 40], list)?;
+    copy_line(rt, b"1 before 14:", [2, 6, 48, 4, 2, 40], list)?;
+    copy_line(
         rt,
-        b"1 before 11:\n1 before 14:\na tree of another length before 14:\ncounts before 14:\nwords before 14:\n",
-        &[
-            0u64, 1, 47, 4, 1, 40, 2, 6, 48, 4, 2, 40, 2, 1, 47, 4, 2, 40, 2, 1, 48, 4, 3, 44, 2,
-            1, 48, 4, 2, 39,
-        ],
+        b"a tree of another length before 14:",
+        [2, 1, 47, 4, 2, 40],
         list,
-    )
+    )?;
+    copy_line(rt, b"counts before 14:", [2, 1, 48, 4, 3, 44], list)?;
+    copy_line(rt, b"words before 14:", [2, 1, 48, 4, 2, 39], list)
 }
 
 fn fill_in(rt: &impl Print, text: &[u8], h: u64, tree: &mut [u64]) -> io::Result<()> {
     let done = rack::fill(tree, h, 1);
     line::name(rt, text)?;
-    line::number(rt, done.number())?;
+    line::number(rt, number_of(done))?;
     line::number(rt, others(tree, 7))?;
     line::end(rt)
 }

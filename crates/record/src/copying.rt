@@ -7,9 +7,5 @@ pub fn copy_words(to: &mut [u64], at: usize, from: &[u64], start: usize, n: usiz
     requires { (at + n ≤ length to.old) × (start + n ≤ length from.now) }
     ensures { to.new ≡ paste to.old at (drop start from.now) n }
 {
-    let mut i = 0;
-    while i < n {
-        to[at + i] = from[start + i];
-        i += 1;
-    }
+    to[at..at + n].copy_from_slice(&from[start..start + n]);
 }

@@ -1,2 +1,3 @@
 -- The laws of refusals that crates above cite.
 pub mod RefusalLaws
+pub mod ReasonLaws

@@ -1,10 +1,11 @@
 -- A removal on the card's parts: the verdict on what was fetched, and what is left. Assumes nothing.
 use Prim.Native.Nat.{ℕ, ◌+◌, ◌*◌, ◌-◌}
-use mathlib.Core.Bool.{Bool, true, false, cond, ◌||◌}
+use mathlib.Core.Bool.{Bool, cond, ◌||◌}
 use mathlib.Core.List.{List}
-use mathlib.Core.Path.{◌≡◌, ap, ◌∙◌}
+use mathlib.Core.Path.{◌≡◌, refl, ap, ◌∙◌}
 use native.Mathlib.Omega.{arith}
 use lib.ListN.{length}
+use Rattle.std.specs.Prelude.{Result, Ok, Err}
 use Rattle.record.specs.declared.Leaf.{Leaf}
 use Rattle.record.specs.declared.Record.{Record}
 use Rattle.record.specs.Words.{records}
@@ -16,12 +17,12 @@ use Rattle.writing.specs.Stored.{StoreRoom}
 use Rattle.parts.specs.declared.Parts.{Parts}
 use Rattle.work.specs.declared.removal.Removed.{Removed}
 use Rattle.work.specs.RemovalWork.{PathRemoved}
+use Rattle.settle.specs.declared.Damaged.{Damaged}
 use Rattle.settle.specs.declared.Settled.{Settled}
-use Rattle.settle.specs.Left.{Left, rule_after, removal, bad_left, removal_damaged}
+use Rattle.settle.specs.Left.{Left, rule_after, removal, path_bad, bad_left, removal_damaged}
 use Rattle.settle.specs.Room.{RemovalRoom}
-use Rattle.settle.specs.Settled.{unsettled, judged, Prepares}
-use Rattle.settle.proofs.PreparedLaws.{not-prepared, is-prepared}
-use Rattle.look.specs.declared.Looked.{Looked}
+use Rattle.settle.specs.Settled.{judged, Prepares}
+use Rattle.settle.proofs.PreparedLaws.{told-damaged, told-done, not-prepared, is-prepared}
 use Rattle.look.specs.Look.{PathLooks}
 
 -- the words are long enough for the stores
@@ -32,33 +33,35 @@ store-room p q ws path room e =
     record { width = room.parts.sizes.width; buckets = e; room = omega arith }
 
 module _ (p : Parts) (root : List Record) (ws : List ℕ) (q : Leaf) (f : Record → Bool)
-    (w sibs : List ℕ) (seen : Looked) (looked : PathLooks p root ws q w sibs seen) where
+    (w sibs : List ℕ) (seen : Result ℕ Damaged) (looked : PathLooks p root ws q w sibs seen) where
   abbrev left : Left
   left = removal p root ws q f
 
   abbrev damaged : Bool
   damaged = removal_damaged p root ws q f
 
-  told : damaged ≡ (seen.damaged || bad_left p left)
+  told : damaged ≡ (path_bad p root ws q || bad_left p left)
   unfolding removal_damaged
-  told = rw looked.verdict
+  told = refl
 
-  pub fetched-bad : (path : List ℕ) (out : Settled) → seen.damaged ≡ true → out ≡ unsettled p root
-      → Prepares p root damaged left p.sizes.h path out
-  fetched-bad path out e g = not-prepared p root damaged left p.sizes.h path out (told ∙ rw e) g
+  pub fetched-bad : (path : List ℕ) (e : Damaged) (out : Result Settled Damaged) → seen ≡ Err e → out ≡ Err e
+      → Prepares damaged left p.sizes.h path out
+  fetched-bad path e out g h =
+      let t = told-damaged _ _ seen looked.verdict e g in
+      not-prepared p damaged left p.sizes.h path out (told ∙ rw t) h
 
   -- what the work leaves, and its judgement
-  pub left-judged : (path : List ℕ) (out : Removed) → PathRemoved (rule_after p) p.sizes q f (records sibs) (records w) root path out → (live : ℕ)
-      → live ≡ cond out.found (p.c - 1) p.c → seen.damaged ≡ false → (done : Settled)
-      → done ≡ judged p root
-      (record { root = out.root; least = out.least; c = live; found = out.found; moved = seen.moved; damaged = false })
-      → Prepares p root damaged left p.sizes.h path done
+  pub left-judged : (path : List ℕ) (out : Removed) → PathRemoved (rule_after p) p.sizes q f (records sibs) (records w) root path out
+      → (live moved : ℕ) → live ≡ cond out.found (p.c - 1) p.c → seen ≡ Ok moved → (done : Result Settled Damaged)
+      → done ≡ judged p (record { root = out.root; least = out.least; c = live; found = out.found; moved = moved })
+      → Prepares damaged left p.sizes.h path done
   unfolding removal
-  left-judged path out work live count good done e =
-      let a = rw (looked.shown.way, looked.shown.siblings) at work in
+  left-judged path out work live moved count good done e =
+      let a = rw (looked.way, looked.siblings) at work in
       let k : live ≡ left.c = count ∙ rw a.finds in
-      is-prepared p root damaged left p.sizes.h path done seen.damaged _ told good
-      (λ i. record { root = a.root i; least = a.least i; c = k i; found = a.finds i; moved = looked.shown.counted i; damaged = false }) a.buckets e
+      let (passed, counted) = told-done _ _ seen looked.verdict moved good in
+      is-prepared p damaged left p.sizes.h path done (path_bad p root ws q) _ told passed
+      (λ i. record { root = a.root i; least = a.least i; c = k i; found = a.finds i; moved = counted i }) a.buckets e
 
 -- "4h(2Z+3)": the siblings' words, and those of the buckets fetched and stored
 pub path-words : (s : Sizes) (q : Leaf)

@@ -18,21 +18,14 @@ ghost use Rattle.settle.specs.Room.{RemovalRoom};
 use parts::Parts;
 use path::{ROOT_PLACES, Sizes};
 use record::{Leaf, RECORD_WORDS, Record, Stamp};
-use settle::{
-    PATH_MOST, SIBLINGS_MOST, Settled, WAY_MOST, judged, path_words, unsettled, way_words,
-};
+use settle::{Damaged, PATH_MOST, SIBLINGS_MOST, Settled, WAY_MOST, judged, path_words, way_words};
+use work::Removed;
 
 // The live events after a removal. None is found where none is live (`found-live`), so c - 1 never falls below 0.
 fn live_after(c: u64, found: bool) -> u64
     ensures { result ≡ cond found (c - 1) c }
 {
-    if !found {
-        return c;
-    }
-    if c == 0 {
-        return 0;
-    }
-    c - 1
+    if found { c.saturating_sub(1) } else { c }
 }
 
 // All is worked out: the path's buckets in `path`, nothing yet in the words. The words moved so far are the siblings'.
@@ -44,9 +37,9 @@ fn prepare_removal(
     leaf: Leaf,
     label: Leaf,
     stamp: Stamp,
-) -> Settled
+) -> Result<Settled, Damaged>
     requires { (RemovalRoom parts leaf words.now) × (length path.old ≡ parts.sizes.h * bucket_words parts.sizes.z) }
-    ensures { Prepares parts root (removal_damaged parts root words.now leaf (named label stamp)) (removal parts root words.now leaf (named label stamp)) parts.sizes.h path.new result }
+    ensures { Prepares (removal_damaged parts root words.now leaf (named label stamp)) (removal parts root words.now leaf (named label stamp)) parts.sizes.h path.new result }
 {
     let sizes = parts.sizes;
     let h = sizes.h as usize;
@@ -56,32 +49,25 @@ fn prepare_removal(
     let mut beside = [0u64; SIBLINGS_MOST];
     let w = &mut way[0..slots];
     let sibs = &mut beside[0..siblings];
-    let seen = look::look_path(words, w, sibs, root, parts, leaf);
-    if seen.damaged {
-        return unsettled(root, parts);
-    }
-    let out = work::remove_path(w, sibs, path, root, sizes, leaf, label, stamp);
-    let next_root = out.root;
-    let next_least = out.least;
+    let moved = look::look_path(words, w, sibs, root, parts, leaf)?;
+    let Removed { root, least, found } = work::remove_path(
+        w, sibs, path, root, sizes, leaf, label, stamp,
+    );
     let next = Settled {
-        root: next_root,
-        least: next_least,
-        c: live_after(parts.c, out.found),
-        found: out.found,
-        moved: seen.moved,
-        damaged: false,
+        root,
+        least,
+        c: live_after(parts.c, found),
+        found,
+        moved,
     };
-    judged(root, parts, next)
+    judged(parts, next)
 }
 
-// The buckets are written; or nothing, where it is Damaged.
+// The buckets are written.
 fn write_removal(words: &mut [u64], path: &[u64], sizes: Sizes, out: Settled) -> Settled
     requires { (Cut sizes) × ((StoreRoom sizes words.old path.now) × (out.moved ≤ 4294967295)) }
     ensures { Writes path.now (sizes.h * (2 * bucket_words sizes.z)) words.old words.new out result }
 {
-    if out.damaged {
-        return out;
-    }
     let stores = writing::write_path(words, path, sizes);
     Settled {
         moved: out.moved + stores,
@@ -97,14 +83,14 @@ pub fn settle_removal(
     leaf: Leaf,
     label: Leaf,
     stamp: Stamp,
-) -> Settled
+) -> Result<Settled, Damaged>
     requires { RemovalRoom parts leaf words.old }
-    ensures { Settles parts root (removal_damaged parts root words.old leaf (named label stamp)) (removal parts root words.old leaf (named label stamp)) (words_moved parts.sizes.z (path_list parts.sizes.h leaf)) words.old words.new result }
+    ensures { Settles (removal_damaged parts root words.old leaf (named label stamp)) (removal parts root words.old leaf (named label stamp)) (words_moved parts.sizes.z (path_list parts.sizes.h leaf)) words.old words.new result }
 {
     let sizes = parts.sizes;
     let buckets = path_words(sizes);
     let mut prepared = [0u64; PATH_MOST];
     let path = &mut prepared[0..buckets];
-    let out = prepare_removal(words, path, root, parts, leaf, label, stamp);
-    write_removal(words, path, sizes, out)
+    let out = prepare_removal(words, path, root, parts, leaf, label, stamp)?;
+    Ok(write_removal(words, path, sizes, out))
 }

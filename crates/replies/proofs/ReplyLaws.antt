@@ -1,20 +1,15 @@
--- A reply is printed by its case, and a line by what it says. Assumes nothing.
+-- A line is printed by what it says. Assumes nothing.
 use Prim.Native.Nat.{ℕ}
 use mathlib.Core.List.{List}
-use mathlib.Core.Path.{◌≡◌, sym, ap, subst}
+use mathlib.Core.Path.{◌≡◌, ap, subst}
 use Rattle.decimal.specs.Promises.{Laid}
 use Rattle.lines.specs.declared.Line.{Line}
 use Rattle.lines.specs.Says.{line_says}
-use Rattle.steps.specs.declared.Desk.{Desk}
-use Rattle.steps.specs.declared.Reply.{Reply}
 use Rattle.steps.specs.declared.Turn.{Turn}
-use Rattle.steps.specs.Step.{Steps}
+use Rattle.steps.specs.Step.{Desk, Steps}
 use Rattle.replies.specs.Reply.{bytes_of, Prints}
 
 module _ (out : List ℕ) (n : ℕ) (printed : List ℕ) where
-  pub reply-as : (a b : Reply) → a ≡ b → Laid (bytes_of b) out n printed → Laid (bytes_of a) out n printed
-  reply-as a b e = subst (λ (x : Reply). Laid (bytes_of x) out n printed) (sym e)
-
   pub line-printed :
       (desk : Desk) (line tree later : List ℕ) (said : Line) (turn : Turn) → said ≡ line_says line → Steps desk said tree later turn
       → Laid (bytes_of turn.reply) out n printed → Prints desk line tree later out printed (record { desk = turn.desk; bytes = n })

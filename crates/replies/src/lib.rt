@@ -1,11 +1,12 @@
-// A line of bytes in, the desk's reply in bytes out: document 01, "What the desk sees". Stands on `decimal`, `lines`, `steps`,
-// `turns`, `frames` and `said`.
+// A line of bytes in, the desk's reply in bytes out: document 01, "What the desk sees". Stands on `decimal`, `answers`, `lines`,
+// `steps`, `turns`, `frames` and `said`.
 #![tactic(auto)]
 
 ghost use Rattle.decimal.specs.Promises.{Laid};
 ghost use Rattle.replies.specs.Reply.{bytes_of, Prints};
 
-use steps::{Desk, Reply};
+use answers::Answer;
+use steps::Desk;
 
 // The desk afterwards, and how many bytes were printed.
 #[derive(Clone, Copy)]
@@ -14,13 +15,14 @@ pub struct Printed {
     pub bytes: usize,
 }
 
-// The reply at the head of the slice, and how many bytes that took; 0 where there is no room, and nothing is written.
-pub fn print_reply(reply: Reply, out: &mut [u8]) -> usize
+// The reply at the head of the slice, `?` for none, and how many bytes that took; 0 where there is no room, and nothing is written.
+// Kept: 0 for none, as of a number that is printed.
+pub fn print_reply(reply: Option<Answer>, out: &mut [u8]) -> usize
     ensures { Laid (bytes_of reply) out.old result out.new }
 {
     match reply {
-        Reply::Unreadable => frames::print_unreadable(out),
-        Reply::Said(answer) => said::print_said(answer, out),
+        None => frames::print_unreadable(out),
+        Some(answer) => said::print_said(answer, out),
     }
 }
 
@@ -30,11 +32,8 @@ pub fn answer_line(desk: Desk, line: &[u8], tree: &mut [u64], out: &mut [u8]) ->
 {
     let said = lines::read_line(line);
     let turn = turns::step(desk, said, tree);
-    let reply = turn.reply;
-    let bytes = print_reply(reply, out);
-    let after = turn.desk;
     Printed {
-        desk: after,
-        bytes: bytes,
+        desk: turn.desk,
+        bytes: print_reply(turn.reply, out),
     }
 }

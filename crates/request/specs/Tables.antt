@@ -1,6 +1,6 @@
 -- When a request is refused: document 01, "Refusal numbers", numbers 4 to 10, in their order. A request that waits and one
 -- that is begun are judged by the same table, as if none waited. Assumes nothing.
-use Rattle.std.specs.Prelude.{ℕ, ◌/◌, Bool, true, false, not, ◌||◌, List, [], ◌∷◌, ltb, leb, eqb}
+use Rattle.std.specs.Prelude.{ℕ, ◌/◌, Bool, true, false, not, ◌||◌, List, [], ◌∷◌, ltb, leb, eqb, Option, None, Some}
 use Rattle.record.specs.declared.Leaf.{Leaf}
 use Rattle.record.specs.declared.Stamp.{Stamp}
 use Rattle.record.specs.declared.Record.{Record}
@@ -10,8 +10,6 @@ use Rattle.root.specs.Root.{root_full}
 use Rattle.refusal.specs.Refusal.{Refusal, row}
 use Rattle.parts.specs.declared.Parts.{Parts}
 use Rattle.parts.specs.Parts.{rule_of}
-use Rattle.request.specs.declared.Waiting.{Waiting}
-use Rattle.request.specs.declared.Waiting.TheVariants.{Nothing, For}
 use Rattle.request.specs.declared.Request.{Request}
 use Rattle.request.specs.declared.Request.TheVariants.{Insert, Extract, Delete}
 
@@ -50,11 +48,11 @@ module _ (p : Parts) where
   request_rows root (Delete label stamp) = delete_rows label stamp
 
   -- of what waits, as if it were begun
-  abbrev pub waiting_rows : List Record → Waiting → List Refusal
-  waiting_rows root Nothing = []
-  waiting_rows root (For request) = request_rows root request
+  abbrev pub waiting_rows : List Record → Option Request → List Refusal
+  waiting_rows root None = []
+  waiting_rows root (Some request) = request_rows root request
 
 -- whether a request waits
-unfoldable pub waits : Waiting → Bool
-waits Nothing = false
-waits (For request) = true
+unfoldable pub waits : Option Request → Bool
+waits None = false
+waits (Some request) = true

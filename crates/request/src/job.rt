@@ -9,7 +9,7 @@ use record::{Leaf, Record, Stamp};
 
 // One path, and the label and stamp of the record to take out; or two paths, and the record to put in. The leaf of the path stands
 // apart from the record's label.
-#[derive(Clone, Copy)]
+#[derive(Clone, Copy, PartialEq, Eq)]
 pub enum Job {
     Path {
         leaf: Leaf,
@@ -37,25 +37,21 @@ pub fn job_of(parts: Parts, request: Request) -> Job
         } => {
             let stamp = Stamp(parts.t);
             let new = Record::proper(key, value, label, stamp);
-            Job::Pair {
-                first: first,
-                second: second,
-                new: new,
-            }
+            Job::Pair { first, second, new }
         }
         Request::Extract => {
             let label = parts.least.label;
             let stamp = parts.least.stamp;
             Job::Path {
                 leaf: label,
-                label: label,
-                stamp: stamp,
+                label,
+                stamp,
             }
         }
         Request::Delete { label, stamp } => Job::Path {
             leaf: label,
-            label: label,
-            stamp: stamp,
+            label,
+            stamp,
         },
     }
 }

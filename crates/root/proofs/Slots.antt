@@ -7,9 +7,10 @@ use mathlib.Core.Path.{◌≡◌, refl, sym, ap, ◌∙◌}
 use mathlib.Mathlib.Data.Bool.Basic.{dichotomy}
 use native.Mathlib.Omega.{arith}
 use lib.Dec.{leb, eqb, eqb-suc-suc, eqb-zero-suc}
-use lib.ListN.{length, take}
+use lib.ListN.{length, take, drop}
 use lib.Seq.{take_all}
 use borrow.Author.Tests.{eq-eqb}
+use Rattle.std.specs.List.{list_all, range_with_len}
 use Rattle.record.specs.declared.Rule.{Rule}
 use Rattle.record.specs.declared.Record.{Record}
 use Rattle.record.specs.Standing.{dummy, is_dummy, is_proper, may_stand}
@@ -17,7 +18,7 @@ use Rattle.record.specs.Order.{before}
 use Rattle.record.specs.Many.{every, reals}
 use Rattle.record.specs.Words.{record_at, records}
 use Rattle.record.proofs.PlacesLaws.{pass-starts, pass-turns, pass-fails, pass-ends, reals-dummy, reals-next}
-use Rattle.record.proofs.WordsLaws.{records-at, records-count}
+use Rattle.record.proofs.WordsLaws.{records-at, records-count, records-next, records-end}
 use Rattle.way.specs.Evict.{seek}
 use Rattle.root.specs.Root.{slots_fine, root_full}
 
@@ -87,6 +88,13 @@ module _ (ws : List ℕ) (rule : Rule) (least : Record) where
   fine-ends i count live p h =
       let whole = take_all i (records ws) (omega (arith, records-count ws)) in
       rw (pass-ends (may_stand rule) ws i h p.stand, pass-ends (no_earlier rule least) ws i h p.after, p.counted, whole)
+
+-- a test of all places from i on, n in number, is one of the records there
+pub places-all : (f : Record → Bool) (ws : List ℕ) (i n : ℕ) → i + n ≡ length ws / 4
+    → list_all (λ k. f (record_at ws k)) (range_with_len i n) ≡ every f (drop i (records ws))
+unfolding every
+places-all f ws i zero e = rw (records-end ws i (omega arith))
+places-all f ws i (suc n) e = rw (records-next ws i (omega arith), ← places-all f ws (i + 1) n (omega arith))
 
 -- "every root slot real": the lowest dummy slot is none of them
 pub full-slots : (n : ℕ) (xs : List Record) → eqb (seek is_dummy n xs) n ≡ root_full n xs

@@ -15,21 +15,15 @@ use record::{RECORD_WORDS, Record, Rule};
 pub fn slots_fine(slots: &[u64], rule: Rule, least: Record, live: u64) -> bool
     ensures { result ≡ slots_fine rule least live (records slots.now) }
 {
-    let n = slots.len() / RECORD_WORDS;
-    let mut count: u64 = 0;
-    let mut i = 0;
-    while i < n {
+    let mut count = 0;
+    for i in 0..slots.len() / RECORD_WORDS {
         let x = Record::read(slots, i);
         if !x.is_dummy() {
-            if !x.is_proper(rule) {
-                return false;
-            }
-            if !least.no_later(x) {
+            if !x.is_proper(rule) || !least.no_later(x) {
                 return false;
             }
             count += 1;
         }
-        i += 1;
     }
     count <= live
 }
@@ -38,31 +32,18 @@ pub fn slots_fine(slots: &[u64], rule: Rule, least: Record, live: u64) -> bool
 pub fn all_dummies(places: &[u64]) -> bool
     ensures { result ≡ every is_dummy (records places.now) }
 {
-    let n = places.len() / RECORD_WORDS;
-    let mut i = 0;
-    while i < n {
-        if !Record::read(places, i).is_dummy() {
-            return false;
-        }
-        i += 1;
-    }
-    true
+    (0..places.len() / RECORD_WORDS).all(|i| Record::read(places, i).is_dummy())
 }
 
 // For crates above: the lowest of the first n slots that is the dummy; n if none is.
+// Kept: n for none, as `seek` has it, which tells the slot that an Insert takes.
 pub fn lowest_dummy(slots: &[u64], n: usize) -> usize
     ensures { result ≡ seek is_dummy n (records slots.now) }
 {
-    let there = slots.len() / RECORD_WORDS;
-    let mut place = 0;
-    while place < n {
-        if place >= there {
-            return n;
-        }
+    for place in 0..n.min(slots.len() / RECORD_WORDS) {
         if Record::read(slots, place).is_dummy() {
             return place;
         }
-        place += 1;
     }
     n
 }

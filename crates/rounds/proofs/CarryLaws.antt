@@ -2,9 +2,11 @@
 use Prim.Native.Nat.{ℕ, zero, suc}
 use mathlib.Core.List.{List}
 use mathlib.Core.Path.{◌≡◌, refl, sym, ap, ◌∙◌}
-use Rattle.rack.specs.declared.Answer.{Answer}
-use Rattle.rack.specs.Answers.{answer_number}
+use Rattle.std.specs.Prelude.{Result, Err, ⊤}
+use Rattle.refusal.specs.declared.Reason.{Reason}
+use Rattle.refusal.specs.Reason.{reason_number, refusal_in}
 use Rattle.refusal.specs.Refusal.{or_else}
+use Rattle.refusal.proofs.ReasonLaws.{some-number}
 use Rattle.refusal.proofs.RefusalLaws.{or-first, or-second}
 use Rattle.card.specs.declared.Card.{Card}
 use Rattle.card.specs.declared.Done.{Done}
@@ -23,20 +25,19 @@ or-none zero = refl
 or-none (suc n) = refl
 
 module _ (k : Card) (v : World) where
-  module _ (a : Answer) (words : List ℕ) (f : FetchesHeld v word_places a words) (said : ℕ) (e : said ≡ answer_number a) where
-    rack-says : (ending v).fetch ≡ said
+  module _ (a : Result ⊤ Reason) (words : List ℕ) (f : FetchesHeld v word_places a words) where
+    pub fetch-refuses : (r : Reason) → a ≡ Err r → (d : Done) → d ≡ refused k (reason_number r) → Carries k 0 v v.tree d
     unfolding after_finish
-    rack-says = sym f.number ∙ sym e
+    fetch-refuses r e d g =
+        let says : (ending v).fetch ≡ reason_number r = sym f.number ∙ ap refusal_in e in
+        round-refused k 0 v (reason_number r) d
+        (or-first (ending v).fetch _ (λ z. some-number r (sym says ∙ z)) ∙ says) (some-number r) g
 
-    pub fetch-refuses : (said ≡ 0 → ⊥) → (d : Done) → d ≡ refused k said → Carries k 0 v v.tree d
-    fetch-refuses some d r =
-        round-refused k 0 v said d (or-first (ending v).fetch _ (λ z. some (sym rack-says ∙ z)) ∙ rack-says) some r
-
-    module _ (u : said ≡ 0) (later : List ℕ) (done : Done) (g : Finishes v.card words later done) (number : ℕ) (m : number ≡ number_of done.answer) where
+    module _ (u : refusal_in a ≡ 0) (later : List ℕ) (done : Done) (g : Finishes v.card words later done) (number : ℕ) (m : number ≡ number_of done.answer) where
       -- the outcome that fetch and finish leave gives the finish's number
-      carry-number : (o : Outcome) → o ≡ ending v → o.fetch ≡ answer_number a → o.answer ≡ done.answer → first_refusal 0 v ≡ number
+      carry-number : (o : Outcome) → o ≡ ending v → o.fetch ≡ refusal_in a → o.answer ≡ done.answer → first_refusal 0 v ≡ number
       carry-number o is fetch answer =
-          let none = sym (ap (λ (x : Outcome). x.fetch) is) ∙ fetch ∙ sym e ∙ u in
+          let none = sym (ap (λ (x : Outcome). x.fetch) is) ∙ fetch ∙ u in
           let given = sym (ap (λ (x : Outcome). number_of x.answer) is) ∙ ap number_of answer ∙ sym m in
           or-second _ _ none ∙ ap (or_else (number_of (ending v).answer)) (store-passes v word_places none) ∙ or-none _ ∙ given
 
@@ -45,7 +46,7 @@ module _ (k : Card) (v : World) where
           let told = refused-told v word_places words later a done f g (λ z. some (m ∙ z)) in
           round-refused k 0 v number d (carry-number (unstored v done a) told refl refl) some r
 
-      pub all_done_lem : number ≡ 0 → (s : Answer) (after : List ℕ) → StoresHeld v later s after → Carries k 0 v after done
+      pub all_done_lem : number ≡ 0 → (s : Result ⊤ Reason) (after : List ℕ) → StoresHeld v later s after → Carries k 0 v after done
       all_done_lem z s after h =
           let told = done-told v word_places words later a done f g (sym m ∙ z) after s h in
           round-done k 0 v (all_done done a s after) told (carry-number (all_done done a s after) told refl refl ∙ z) (sym m ∙ z)

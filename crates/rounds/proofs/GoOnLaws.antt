@@ -1,7 +1,7 @@
--- What begin answered decides whether a request is carried on. Assumes nothing.
+-- A request that begin refuses is not carried on. Assumes nothing.
 use Prim.Native.Nat.{ℕ}
 use mathlib.Core.List.{List}
-use mathlib.Core.Path.{◌≡◌, sym, subst, ◌∙◌}
+use mathlib.Core.Path.{◌≡◌, sym, ◌∙◌}
 use Rattle.lists.specs.declared.Listed.{Listed as Counts}
 use Rattle.refusal.proofs.RefusalLaws.{or-first}
 use Rattle.card.specs.declared.Card.{Card}
@@ -18,14 +18,8 @@ module _ (k : Card) (b : Done) (list tree : List ℕ) where
   abbrev next : Counts → World
   next n = holding_list b.card tree list n
 
-  module _ (number : ℕ) (m : number ≡ number_of b.answer) where
-    pub nothing-begun : (number ≡ 0 → ⊥) → (d : Done) → d ≡ refused k number
-        → Carries k (number_of b.answer) (next (counts_in b.answer)) tree d
-    nothing-begun some d r =
-        round-refused k _ _ number d (or-first (number_of b.answer) _ (λ z. some (m ∙ z)) ∙ sym m) some r
-
-    pub carried : number ≡ 0 → (n : Counts) → n ≡ counts_in b.answer → (after : List ℕ) (d : Done) → Carries k 0 (next n) after d
-        → Carries k (number_of b.answer) (next (counts_in b.answer)) after d
-    carried z n e after d p =
-        subst (λ (x : ℕ). Carries k x (next (counts_in b.answer)) after d) (sym z ∙ m)
-        (subst (λ (x : Counts). Carries k 0 (next x) after d) e p)
+  pub nothing-begun :
+      (number : ℕ) → number ≡ number_of b.answer → (number ≡ 0 → ⊥) → (d : Done) → d ≡ refused k number
+      → Carries k (number_of b.answer) (next (counts_in b.answer)) tree d
+  nothing-begun number m some d r =
+      round-refused k _ _ number d (or-first (number_of b.answer) _ (λ z. some (m ∙ z)) ∙ sym m) some r

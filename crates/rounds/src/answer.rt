@@ -11,23 +11,9 @@ use lists::Listed;
 pub(crate) fn counts(answer: Answer) -> Listed
     ensures { result ≡ counts_in answer }
 {
-    let none = Listed { whole: 0, least: 0 };
     match answer {
-        Answer::Listed { whole, least } => Listed {
-            whole: whole,
-            least: least,
-        },
-        Answer::Started => none,
-        Answer::Least { event: _, words: _ } => none,
-        Answer::Withdrawn => none,
-        Answer::Inserted {
-            label: _,
-            stamp: _,
-            words: _,
-        } => none,
-        Answer::Extracted { event: _, words: _ } => none,
-        Answer::Deleted { found: _, words: _ } => none,
-        Answer::Refused(_) => none,
+        Answer::Listed(counts) => counts,
+        _ => Listed { whole: 0, least: 0 },
     }
 }
 
@@ -35,9 +21,8 @@ pub(crate) fn counts(answer: Answer) -> Listed
 pub(crate) fn refuse(card: Card, number: u64) -> Done
     ensures { result ≡ refused card number }
 {
-    let answer = Answer::Refused(number);
     Done {
-        card: card,
-        answer: answer,
+        card,
+        answer: Answer::Refused(number),
     }
 }

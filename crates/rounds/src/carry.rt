@@ -8,6 +8,7 @@ ghost use Rattle.rounds.specs.Round.{Carries};
 use crate::answer;
 use card::{Card, Done};
 use lists::Listed;
+use path::Sizes;
 
 // The most words that are fetched: 32 whole buckets of 24 words, and 30 least records.
 const WORDS_MOST: usize = 888;
@@ -17,20 +18,18 @@ fn carry(card: Card, begun: Card, list: &[u64], n: Listed, tree: &mut [u64]) -> 
     ensures { Carries card 0 (holding_list begun tree.old list.now n) tree.new result }
 {
     let mut words = [0u64; WORDS_MOST];
-    let h = begun.sizes.h;
-    let z = begun.sizes.z;
+    let Sizes { h, z, .. } = begun.sizes;
     let fetched = rack::fetch(h, z, tree, list, n.whole, n.least, &mut words);
-    let refused = fetched.number();
-    if refused != 0 {
-        return answer::refuse(card, refused);
+    if let Err(reason) = fetched {
+        return answer::refuse(card, reason.number());
     }
     let done = begun.finish(&mut words);
-    let given = done.answer;
-    let said = answers::number_of(given);
+    let said = answers::number_of(done.answer);
     if said != 0 {
         return answer::refuse(card, said);
     }
-    rack::store(h, z, tree, list, n.whole, n.least, &words);
+    // By the list that fetch took a store is not refused.
+    let _ = rack::store(h, z, tree, list, n.whole, n.least, &words);
     done
 }
 
@@ -38,12 +37,10 @@ fn carry(card: Card, begun: Card, list: &[u64], n: Listed, tree: &mut [u64]) -> 
 pub(crate) fn go_on(card: Card, begun: Done, list: &[u64], tree: &mut [u64]) -> Done
     ensures { Carries card (number_of begun.answer) (holding_list begun.card tree.old list.now (counts_in begun.answer)) tree.new result }
 {
-    let given = begun.answer;
-    let number = answers::number_of(given);
+    let number = answers::number_of(begun.answer);
     if number != 0 {
         return answer::refuse(card, number);
     }
-    let n = answer::counts(given);
-    let waiting = begun.card;
-    carry(card, waiting, list, n, tree)
+    let n = answer::counts(begun.answer);
+    carry(card, begun.card, list, n, tree)
 }

@@ -12,7 +12,7 @@ event_numbers r words = 0 ∷ r.key ∷ r.value ∷ r.label.0 ∷ r.stamp.0 ∷ 
 -- the numbers of an answer; FindMin moves no words. No line of the desk is answered by Listed or Withdrawn.
 abbrev pub numbers_of : Answer → List ℕ
 numbers_of Started = 0 ∷ []
-numbers_of (Listed whole least) = 0 ∷ []
+numbers_of (Listed n) = 0 ∷ []
 numbers_of (Least r words) = event_numbers r words
 numbers_of Withdrawn = 0 ∷ []
 numbers_of (Inserted label stamp words) = 0 ∷ label.0 ∷ stamp.0 ∷ words ∷ []

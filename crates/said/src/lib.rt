@@ -2,31 +2,12 @@
 // `answers`, `decimal` and `frames`.
 #![tactic(auto)]
 
-ghost use Rattle.std.specs.Prelude.{◌≡◌, [], ◌∷◌, cond};
 ghost use Rattle.decimal.specs.Promises.{Laid};
 ghost use Rattle.frames.specs.Answer.{answer_line};
 ghost use Rattle.said.specs.Said.{numbers_of, event_numbers};
 
 use answers::Answer;
 use record::Record;
-
-fn print_one(number: u64, out: &mut [u8]) -> usize
-    ensures { Laid (answer_line (number ∷ [])) out.old result out.new }
-{
-    frames::print_answer(&[number], out)
-}
-
-fn print_three(second: u64, third: u64, out: &mut [u8]) -> usize
-    ensures { Laid (answer_line (0 ∷ second ∷ third ∷ [])) out.old result out.new }
-{
-    frames::print_answer(&[0, second, third], out)
-}
-
-fn print_four(second: u64, third: u64, fourth: u64, out: &mut [u8]) -> usize
-    ensures { Laid (answer_line (0 ∷ second ∷ third ∷ fourth ∷ [])) out.old result out.new }
-{
-    frames::print_answer(&[0, second, third, fourth], out)
-}
 
 // An event, and the words moved for it.
 fn print_event(event: Record, words: u64, out: &mut [u8]) -> usize
@@ -45,29 +26,26 @@ fn print_event(event: Record, words: u64, out: &mut [u8]) -> usize
     )
 }
 
-// "found (1 or 0)"
-fn found_number(found: bool) -> u64
-    ensures { result ≡ cond found 1 0 }
-{
-    if found { 1 } else { 0 }
-}
-
 // The answer's numbers at the head of the slice, and how many bytes that took; 0 where there is no room, and nothing is written.
+// Kept: 0 for none, as of a number that is printed.
 pub fn print_said(answer: Answer, out: &mut [u8]) -> usize
     ensures { Laid (answer_line (numbers_of answer)) out.old result out.new }
 {
     match answer {
-        Answer::Started => print_one(0, out),
-        Answer::Listed { whole: _, least: _ } => print_one(0, out),
-        Answer::Least { event, words } => print_event(event, words, out),
-        Answer::Withdrawn => print_one(0, out),
+        Answer::Started | Answer::Listed { .. } | Answer::Withdrawn => {
+            frames::print_answer(&[0], out)
+        }
+        Answer::Least { event, words } | Answer::Extracted { event, words } => {
+            print_event(event, words, out)
+        }
         Answer::Inserted {
             label,
             stamp,
             words,
-        } => { print_four(label.0, stamp.0, words, out) }
-        Answer::Extracted { event, words } => print_event(event, words, out),
-        Answer::Deleted { found, words } => print_three(found_number(found), words, out),
-        Answer::Refused(number) => print_one(number, out),
+        } => frames::print_answer(&[0, label.0, stamp.0, words], out),
+        Answer::Deleted { found, words } => {
+            frames::print_answer(&[0, u64::from(found), words], out)
+        }
+        Answer::Refused(number) => frames::print_answer(&[number], out),
     }
 }

@@ -5,6 +5,7 @@ use mathlib.Core.Bool.{true, false}
 use mathlib.Core.List.{List, []}
 use mathlib.Core.Path.{◌≡◌, refl, subst}
 use borrow.Author.Tests.{eq-eqb}
+use Rattle.std.specs.Prelude.{Option, None, Some}
 use Rattle.record.specs.declared.Record.{Record}
 use Rattle.record.specs.Order.{smallest}
 use Rattle.path.specs.declared.sizes.Sizes.{Sizes}
@@ -13,8 +14,6 @@ use Rattle.path.specs.Layout.{fresh_tree}
 use Rattle.refusal.specs.Refusal.{first_given}
 use Rattle.parts.specs.Parts.{rule_of}
 use Rattle.card.specs.declared.Card.{Card}
-use Rattle.request.specs.declared.Waiting.{Waiting}
-use Rattle.request.specs.declared.Waiting.TheVariants.{Nothing, For}
 use Rattle.request.specs.declared.Request.{Request}
 use Rattle.card.specs.Tables.{parts_of, request_table, waiting_table}
 use Rattle.card.specs.BadCard.{bad_card}
@@ -25,7 +24,7 @@ use Rattle.good.proofs.FoundLaws.{heap-least}
 use Rattle.served.specs.Ready.{Ready}
 
 -- no request waits, so there is none to refuse
-pub none-waits : (k : Card) → first_given (waiting_table k Nothing) ≡ 0
+pub none-waits : (k : Card) → first_given (waiting_table k None) ≡ 0
 unfolding first_given
 none-waits k = refl
 
@@ -41,14 +40,14 @@ start-ready s ok = record { heap = fresh-heap s ok; waiting = none-waits (fresh_
 
 -- a request that begin takes waits
 pub begin-ready : (k : Card) (tree : List ℕ) (live : List Record) (q : Request) → Ready k tree live → first_given (request_table k q) ≡ 0
-    → Ready (with_waiting k (For q)) tree live
+    → Ready (with_waiting k (Some q)) tree live
 begin-ready k tree live q r e = record { heap = r.heap; waiting = e }
 
 -- the request that waits is within its rules
-pub waiting-taken : (k : Card) (tree : List ℕ) (live : List Record) (q : Request) → Ready k tree live → k.waiting ≡ For q → first_given (request_table k q) ≡ 0
-waiting-taken k tree live q r e = subst (λ (w : Waiting). first_given (waiting_table k w) ≡ 0) e r.waiting
+pub waiting-taken : (k : Card) (tree : List ℕ) (live : List Record) (q : Request) → Ready k tree live → k.waiting ≡ Some q → first_given (request_table k q) ≡ 0
+waiting-taken k tree live q r e = subst (λ (w : Option Request). first_given (waiting_table k w) ≡ 0) e r.waiting
 
-pub withdraw-ready : (k : Card) (tree : List ℕ) (live : List Record) → Ready k tree live → Ready (with_waiting k Nothing) tree live
+pub withdraw-ready : (k : Card) (tree : List ℕ) (live : List Record) → Ready k tree live → Ready (with_waiting k None) tree live
 withdraw-ready k tree live r = record { heap = r.heap; waiting = none-waits k }
 
 -- "FindMin answers the root's least record"

@@ -6,13 +6,12 @@ use mathlib.Core.Path.{◌≡◌, sym, ap, ◌∙◌}
 use native.Mathlib.Omega.{arith}
 use lib.ListN.{length, drop, length-append, length-map}
 use borrow.Author.Tests.{lt-ltb}
+use Rattle.std.specs.Prelude.{Option, Some}
 use Rattle.record.specs.declared.Record.{Record}
 use Rattle.path.specs.Path.{number}
 use Rattle.path.proofs.SizesLaws.{tree-range}
 use Rattle.lists.specs.BucketList.{BucketList, numbers, laid, counts}
 use Rattle.request.specs.declared.Request.{Request}
-use Rattle.request.specs.declared.Waiting.{Waiting}
-use Rattle.request.specs.declared.Waiting.TheVariants.{For}
 use Rattle.settle.specs.Left.{Left, words_left}
 use Rattle.copies.specs.Copy.{fetched, stored}
 use Rattle.rack.proofs.ListedLaws.{listed-laid, laid-passes}
@@ -46,7 +45,7 @@ module _ (k : Card) (tree : List ℕ) (a : Request) (words : List ℕ) where
         store = 0;
       }
 
-module _ (k : Card) (tree places : List ℕ) (live : List Record) (r : Ready k tree live) (a : Request) (busy : k.waiting ≡ For a) where
+module _ (k : Card) (tree places : List ℕ) (live : List Record) (r : Ready k tree live) (a : Request) (busy : k.waiting ≡ Some a) where
   abbrev l : BucketList
   l = list_of k a
 
@@ -85,10 +84,10 @@ module _ (k : Card) (tree places : List ℕ) (live : List Record) (r : Ready k t
     stores = rack-passes (words_left out ws) (omega (arith, room, fetched-room k.sizes.z tree l words, left-room out ws))
 
     done-is : finished k ws ≡ finished_by k a out
-    done-is = ap (λ (w : Waiting). finished_for k w ws) busy
+    done-is = ap (λ (w : Option Request). finished_for k w ws) busy
 
     after_is : words_for k k.waiting ws ≡ words_left out ws
-    after_is = ap (λ (w : Waiting). words_for k w ws) busy
+    after_is = ap (λ (w : Option Request). words_for k w ws) busy
 
     finishing-done : finishing u 0 ws ≡ served_by k tree a words
     unfolding or_refused finished_by

@@ -5,6 +5,7 @@ use mathlib.Core.Bool.{Bool, true, false, cond}
 use mathlib.Core.List.{List, [], ◌∷◌, ◌++◌}
 use mathlib.Core.Path.{◌≡◌, refl}
 use native.Mathlib.Omega.{arith}
+use Rattle.std.specs.Prelude.{Some}
 use Rattle.record.specs.declared.Leaf.{Leaf}
 use Rattle.record.specs.declared.Stamp.{Stamp}
 use Rattle.record.specs.declared.Record.{Record}
@@ -21,7 +22,6 @@ use Rattle.card.specs.declared.Card.{Card}
 use Rattle.parts.specs.Parts.{next_stamp}
 use Rattle.request.specs.declared.Request.{Request}
 use Rattle.request.specs.declared.Request.TheVariants.{Insert, Extract, Delete}
-use Rattle.request.specs.declared.Waiting.TheVariants.{For}
 use Rattle.card.specs.Tables.{parts_of, request_table}
 use Rattle.card.specs.Finish.{card_left}
 use Rattle.card.proofs.BeginLaws.{Insertable, insertable, extractable, Deletable, deletable}
@@ -39,7 +39,7 @@ module _ (k : Card) (tree words : List ℕ) (live : List Record) (r : Ready k tr
   abbrev H : Heap (parts_of k) k.root tree live
   H = r.heap
 
-  taken : (q : Request) → k.waiting ≡ For q → first_given (request_table k q) ≡ 0
+  taken : (q : Request) → k.waiting ≡ Some q → first_given (request_table k q) ≡ 0
   taken q = waiting-taken k tree live q r
 
   ready-left : (l : Left) (after : List ℕ) (live' : List Record) → Heap (parts_after (parts_of k) l.c l.least) l.root after live'
@@ -71,7 +71,7 @@ module _ (k : Card) (tree words : List ℕ) (live : List Record) (r : Ready k tr
         (rw e at (removal-kept (parts_of k) k.root tree words live H left leaf inside (named label stamp) stamp (named-picks label stamp)))
 
   -- ---- ExtractMin
-  module _ (w : k.waiting ≡ For Extract) where
+  module _ (w : k.waiting ≡ Some Extract) where
     abbrev m : Record
     m = k.least
 
@@ -105,7 +105,7 @@ module _ (k : Card) (tree words : List ℕ) (live : List Record) (r : Ready k tr
     extract-ready = path-ready m.label m.label m.stamp within time true extract-there
 
   -- ---- Delete
-  module _ (label : Leaf) (stamp : Stamp) (w : k.waiting ≡ For (Delete label stamp)) where
+  module _ (label : Leaf) (stamp : Stamp) (w : k.waiting ≡ Some (Delete label stamp)) where
     rules : Deletable k label stamp
     rules = deletable k label stamp (taken _ w)
 
@@ -130,7 +130,7 @@ module _ (k : Card) (tree words : List ℕ) (live : List Record) (r : Ready k tr
     delete-ready = path-ready label label stamp rules.label due _ delete-found
 
   -- ---- Insert: the key is a 64-bit number
-  module _ (key value : ℕ) (label first second : Leaf) (w : k.waiting ≡ For (Insert key value label first second)) (word : key ≤ dummy_key) where
+  module _ (key value : ℕ) (label first second : Leaf) (w : k.waiting ≡ Some (Insert key value label first second)) (word : key ≤ dummy_key) where
     abbrev new : Record
     new = record_of key value label (next_stamp (parts_of k))
 

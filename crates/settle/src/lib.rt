@@ -8,14 +8,13 @@ ghost use Rattle.std.specs.Prelude.{◌≡◌, ◌+◌, ◌*◌, ◌≤◌};
 ghost use Rattle.path.specs.Layout.{bucket_words};
 ghost use Rattle.judge.specs.BadParts.{bad_parts};
 ghost use Rattle.path.specs.Cut.{Cut};
-ghost use Rattle.settle.specs.Settled.{unsettled, judged};
+ghost use Rattle.settle.specs.Settled.{judged};
 
 use parts::Parts;
 use path::{HEIGHT_MOST, ROOT_PLACES, ROOT_WORDS, SLOTS_MOST, Sizes};
 use record::{RECORD_WORDS, Record};
 
-// What a finish makes of the card's parts, whether a record was found to remove, and the words moved; or, where it is
-// Damaged, the parts as they came.
+// What a finish makes of the card's parts, whether a record was found to remove, and the words moved.
 #[derive(Clone, Copy)]
 pub struct Settled {
     pub root: [Record; ROOT_PLACES],
@@ -23,8 +22,12 @@ pub struct Settled {
     pub c: u64,
     pub found: bool,
     pub moved: u64,
-    pub damaged: bool,
 }
+
+// Why a finish is not done: what was fetched, or the card that would come out, is not as it must be. The parts stay as they
+// came, and so do the words.
+#[derive(Clone, Copy, PartialEq, Eq)]
+pub struct Damaged;
 
 // The longest scratches, for sizes at the top of their ranges: a way's slots, with one path's or both; a path's siblings;
 // a path's buckets.
@@ -56,21 +59,6 @@ pub fn path_words(sizes: Sizes) -> usize
     h * (RECORD_WORDS * (z + 1))
 }
 
-// For crates above: Damaged, the parts as they came.
-pub fn unsettled(root: [Record; ROOT_PLACES], parts: Parts) -> Settled
-    ensures { result ≡ unsettled parts root }
-{
-    let least = parts.least;
-    Settled {
-        root: root,
-        least: least,
-        c: parts.c,
-        found: false,
-        moved: 0,
-        damaged: true,
-    }
-}
-
 // "or the card that would come out is a BadCard"; no request waits on it.
 fn comes_out_bad(root: [Record; ROOT_PLACES], parts: Parts) -> bool
     ensures { result ≡ bad_parts parts root }
@@ -81,20 +69,18 @@ fn comes_out_bad(root: [Record; ROOT_PLACES], parts: Parts) -> bool
 }
 
 // For crates above: what would come out of a finish of one request more; or, where that is a BadCard, Damaged.
-pub fn judged(root: [Record; ROOT_PLACES], parts: Parts, next: Settled) -> Settled
+pub fn judged(parts: Parts, next: Settled) -> Result<Settled, Damaged>
     requires { parts.t ≤ 4294967295 }
-    ensures { result ≡ judged parts root next }
+    ensures { result ≡ judged parts next }
 {
-    let next_root = next.root;
-    let next_least = next.least;
     let next_parts = Parts {
         t: parts.t + 1,
         c: next.c,
-        least: next_least,
+        least: next.least,
         ..parts
     };
-    if comes_out_bad(next_root, next_parts) {
-        return unsettled(root, parts);
+    if comes_out_bad(next.root, next_parts) {
+        return Err(Damaged);
     }
-    next
+    Ok(next)
 }

@@ -21,6 +21,7 @@ pub fn of_card<F: FnOnce(Card) -> Done>(card: &mut Card, call: F) -> Answer
 }
 
 // With four plain parameters.
+// Kept: by `of_card` and a closure that holds the four it would ask that each of them may be dropped.
 pub fn of_four<A, B, C, D, F: FnOnce(Card, A, B, C, D) -> Done>(
     card: &mut Card,
     a: A,
@@ -38,6 +39,7 @@ pub fn of_four<A, B, C, D, F: FnOnce(Card, A, B, C, D) -> Done>(
 }
 
 // With a lent slice.
+// Kept: a closure that held the slice would not say what it leaves there, since a call that is made once leaves no state.
 pub fn of_card_and_slice<F: FnOnce(Card, &mut [u64]) -> Done>(
     card: &mut Card,
     words: &mut [u64],
@@ -52,6 +54,7 @@ pub fn of_card_and_slice<F: FnOnce(Card, &mut [u64]) -> Done>(
 }
 
 // With one plain parameter and a lent slice.
+// Kept: by the law above and a closure that holds the parameter it would ask that this may be dropped.
 pub fn of_one_and_slice<A, F: FnOnce(Card, A, &mut [u64]) -> Done>(
     card: &mut Card,
     a: A,

@@ -18,9 +18,8 @@ fn show_way(w: &mut [u64], root: [Record; ROOT_PLACES], words: &[u64], n: usize,
     ensures { records w.new ≡ way_shown n sizes.z sizes.r root words.now 0 }
 {
     let r = sizes.r as usize;
-    let z = sizes.z as usize;
     gather::load_root(w, root, r);
-    gather::load_slots(w, r, words, 0, n, z);
+    gather::load_slots(w, r, words, 0, n, sizes.z as usize);
 }
 
 // For crates above: the way of ExtractMin's or Delete's path, and its siblings' least records from level 1 on.
@@ -44,9 +43,8 @@ fn show_siblings(sibs: &mut [u64], words: &[u64], skip: usize, sizes: Sizes) -> 
     requires { SiblingRoom sizes skip words.now sibs.old }
     ensures { SiblingsBelow sizes words.now skip sibs.new result }
 {
-    let h = sizes.h as usize;
     Record::DUMMY.write(sibs, 0);
-    gather::load_siblings(sibs, words, 2 * h, skip, 2, sizes)
+    gather::load_siblings(sibs, words, 2 * sizes.h as usize, skip, 2, sizes)
 }
 
 // For crates above: what an Insert looks at and works on.

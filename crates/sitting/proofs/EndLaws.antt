@@ -1,17 +1,10 @@
--- The first and the last of a sitting: the card that a refused start hands back; a last line that lacks its end. Assumes nothing.
+-- The last of a sitting: a last line that lacks its end. Assumes nothing.
 use Prim.Native.Nat.{ℕ, ◌<◌, min}
-use mathlib.Core.Bool.{false}
 use mathlib.Core.List.{List, [], ◌∷◌, append-nil}
 use mathlib.Core.Path.{◌≡◌, refl, sym, ap, ◌∙◌}
 use native.Mathlib.Omega.{arith}
-use lib.ListN.{length, take, replicate, length-take}
+use lib.ListN.{length, take, length-take}
 use lib.Seq.{take_all}
-use Rattle.path.specs.Sizes.{sizes_of, between, tree_in, in_range}
-use Rattle.refusal.specs.Refusal.{first_given}
-use Rattle.card.specs.declared.Card.{Card}
-use Rattle.card.specs.declared.Done.{Done}
-use Rattle.card.specs.Answers.{or_refused, Answered}
-use Rattle.card.specs.Calls.{zero_card, start_table, started}
 use Rattle.replies.specs.declared.Printed.{Printed}
 use Rattle.replies.specs.Reply.{Prints}
 use Rattle.decimal.proofs.PrintLaws.{in-room}
@@ -19,22 +12,8 @@ use Rattle.frames.specs.Framing.{last_of}
 use Rattle.frames.proofs.TakeLaws.{take_min}
 use Rattle.sitting.specs.declared.Sitting.{Sitting}
 use Rattle.output.specs.Output.{replies_to, behind_all}
-use Rattle.sitting.specs.Sitting.{begins, open_line, Closes}
+use Rattle.sitting.specs.Sitting.{open_line, Closes}
 
--- ---- before the first byte
-zero-start : (d : Done) → Answered zero_card (first_given (start_table (sizes_of 0 0 0 0))) (started (sizes_of 0 0 0 0)) d → d.card ≡ zero_card
-unfolding start_table in_range tree_in between first_given or_refused
-zero-start d a = ap (λ (x : Done). x.card) a.whole
-
-abbrev opened_with : Card → Sitting
-opened_with k = record { desk = record { sized = false; card = k }; line = replicate 129 0; held = 0 }
-
-pub opens :
-    (d : Done) → Answered zero_card (first_given (start_table (sizes_of 0 0 0 0))) (started (sizes_of 0 0 0 0)) d
-    → opened_with d.card ≡ begins
-opens d a = ap opened_with (zero-start d a)
-
--- ---- behind the last one
 pub closes-none : (s : Sitting) (tree out : List ℕ) → s.held ≡ 0 → Closes s tree tree out 0 out
 unfolding replies_to behind_all
 closes-none s tree out e =

@@ -13,7 +13,7 @@ use Rattle.frames.specs.declared.Taken.{Taken}
 use Rattle.frames.specs.Framing.{Takes}
 use Rattle.frames.proofs.TakeLaws.{take_min, takes-some}
 use Rattle.frames.proofs.AnswerLaws.{rest-lent, put_back}
-use Rattle.steps.specs.declared.Desk.{Desk}
+use Rattle.steps.specs.Step.{Desk}
 use Rattle.replies.specs.declared.Printed.{Printed}
 use Rattle.replies.specs.Reply.{Prints}
 use Rattle.output.specs.Output.{State}

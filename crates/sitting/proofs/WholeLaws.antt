@@ -10,8 +10,7 @@ use lib.Seq.{take_at, take-take}
 use Rattle.lines.specs.declared.Line.{Line}
 use Rattle.fields.specs.Pieces.{pieces}
 use Rattle.lines.specs.Says.{line_says}
-use Rattle.steps.specs.Step.{step_of}
-use Rattle.steps.specs.declared.Desk.{Desk}
+use Rattle.steps.specs.Step.{Desk, step_of}
 use Rattle.decimal.proofs.PrintLaws.{laid-in-room}
 use Rattle.frames.specs.Framing.{ended_in, begun_by, last_of}
 use Rattle.frames.proofs.FramingLaws.{cut-says, take_twice, ended-joined, begun-joined, input-heard}

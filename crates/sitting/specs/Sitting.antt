@@ -2,7 +2,7 @@
 use Rattle.std.specs.Prelude.{ℕ, ◌-◌, List, [], ◌++◌, ◌≡◌, length, take, drop, replicate}
 use Rattle.decimal.specs.Promises.{Laid}
 use Rattle.frames.specs.Framing.{ended_in, begun_by, last_of}
-use Rattle.steps.specs.declared.Desk.{Desk}
+use Rattle.steps.specs.Step.{Desk}
 use Rattle.output.specs.Output.{State, replies_to, behind_all, shut}
 use Rattle.output.specs.Room.{piece_taken, held_of}
 use Rattle.sitting.specs.declared.Sitting.{Sitting}

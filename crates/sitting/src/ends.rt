@@ -2,25 +2,15 @@
 ghost use Rattle.std.specs.Prelude.{◌≡◌};
 ghost use Rattle.sitting.specs.Sitting.{begins, Closes};
 
-use crate::feeding::least;
 use crate::{LINE_HELD, Sitting};
-use card::Card;
-use steps::Desk;
 
-// Before any accepted `size` the card means nothing: it is the one that a refused start hands back.
+// Before the first byte: no `size` was accepted, and nothing is held.
 pub fn open() -> Sitting
     ensures { result ≡ begins }
 {
-    let refused = Card::start(0, 0, 0, 0);
-    let card = refused.card;
-    let desk = Desk {
-        sized: false,
-        card: card,
-    };
-    let line = [0u8; LINE_HELD];
     Sitting {
-        desk: desk,
-        line: line,
+        desk: None,
+        line: [0; LINE_HELD],
         held: 0,
     }
 }
@@ -29,13 +19,10 @@ pub fn open() -> Sitting
 pub fn close(sitting: Sitting, tree: &mut [u64], out: &mut [u8]) -> usize
     ensures { Closes sitting tree.old tree.new out.old result out.new }
 {
-    let held = sitting.held;
+    let Sitting { desk, line, held } = sitting;
     if held == 0 {
         return 0;
     }
-    let line = sitting.line;
-    let desk = sitting.desk;
-    let n = least(held, LINE_HELD);
-    let done = replies::answer_line(desk, &line[..n], tree, out);
-    done.bytes
+    let n = held.min(LINE_HELD);
+    replies::answer_line(desk, &line[..n], tree, out).bytes
 }

@@ -2,25 +2,21 @@
 //
 // A chunk may end many lines, and what they print may be longer than the room that is lent. So bytes are taken while the room
 // holds one more reply, whatever it is; the caller hands in the rest of the chunk again, with room.
-ghost use Rattle.std.specs.Prelude.{◌≡◌, min};
 ghost use Rattle.sitting.specs.Sitting.{Feeds};
 
 use crate::{Fed, LINE_HELD, Sitting};
-
-pub(crate) fn least(a: usize, b: usize) -> usize
-    ensures { result ≡ min a b }
-{
-    if a < b { a } else { b }
-}
 
 // Takes the bytes of a chunk and answers the lines that end in them, as far as there is room to print; what has come of the next
 // line is held.
 pub fn feed(sitting: Sitting, tree: &mut [u64], chunk: &[u8], out: &mut [u8]) -> Fed
     ensures { Feeds sitting tree.old tree.new chunk.now out.old result out.new }
 {
-    let mut desk = sitting.desk;
-    let mut line = sitting.line;
-    let mut held = least(sitting.held, LINE_HELD);
+    let Sitting {
+        mut desk,
+        mut line,
+        held,
+    } = sitting;
+    let mut held = held.min(LINE_HELD);
     let mut taken = 0;
     let mut written = 0;
     while output::goes_on(taken, chunk.len(), out.len() - written) {
@@ -35,14 +31,9 @@ pub fn feed(sitting: Sitting, tree: &mut [u64], chunk: &[u8], out: &mut [u8]) ->
         }
     }
     output::clear(&mut line, held);
-    let after = Sitting {
-        desk: desk,
-        line: line,
-        held: held,
-    };
     Fed {
-        sitting: after,
-        taken: taken,
-        written: written,
+        sitting: Sitting { desk, line, held },
+        taken,
+        written,
     }
 }

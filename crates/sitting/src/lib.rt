@@ -1,5 +1,5 @@
 // A sitting at the desk, from the first byte of its input to the last: document 01, "What the desk sees". Bytes come in chunks
-// of any lengths, and every byte that is to be printed goes out. Stands on `card`, `frames`, `steps`, `replies` and
+// of any lengths, and every byte that is to be printed goes out. Stands on `frames`, `steps`, `replies` and
 // `output`.
 #![tactic(auto)]
 
@@ -14,6 +14,7 @@ use steps::Desk;
 pub const LINE_HELD: usize = 129;
 
 // The desk between two chunks: `held` bytes of an open line stand at the head of `line`.
+// Kept: a buffer with a length beside it. What is held outlives the chunk that it came in, and there is no heap for it.
 #[derive(Clone, Copy)]
 pub struct Sitting {
     pub desk: Desk,

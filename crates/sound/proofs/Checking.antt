@@ -1,24 +1,16 @@
 -- What the loops that check have seen so far: levels of a path, and records of a bucket's part. Assumes nothing.
-use Prim.Native.Nat.{ℕ, zero, suc, ◌+◌, ◌*◌, ◌-◌, ◌≤◌, ◌<◌}
-use mathlib.Core.Bool.{Bool, true, false, not}
+use Prim.Native.Nat.{ℕ, suc, ◌+◌, ◌*◌, ◌-◌, ◌≤◌, ◌<◌}
+use mathlib.Core.Bool.{Bool, true, false}
 use mathlib.Core.List.{List, ◌∷◌}
 use mathlib.Core.Path.{◌≡◌, refl, sym, ◌∙◌}
 use native.Mathlib.Numerals.{add-one}
 use native.Mathlib.Omega.{arith}
 use lib.ListN.{length, take, drop}
-use borrow.Author.Tests.{not-true, not-false}
 use Rattle.record.specs.Words.{records}
 use Rattle.record.specs.Many.{every}
 use Rattle.path.specs.Path.{up_from}
 use Rattle.gather.proofs.ShownLaws.{fewer, whole-records}
 use Rattle.sound.specs.Fetched.{shown_in}
-
--- a test that came out as the definition says, and was asked for its denial
-pub passes : {test is : Bool} → test ≡ is → not test ≡ false → is ≡ true
-passes e f = sym e ∙ not-false _ f
-
-pub refuses : {test is : Bool} → test ≡ is → not test ≡ true → is ≡ false
-refuses e f = sym e ∙ not-true _ f
 
 -- All levels from `from` up to d, which is not looked at yet, have passed.
 pub record Passed (f : ℕ → Bool) (h from d : ℕ) : Type 0 where
@@ -55,27 +47,10 @@ module _ (z : ℕ) (path : List ℕ) (h d : ℕ) (room : 4 * (h * (z + 1)) ≤ l
   pub level-room : 4 * ((d - 1 + 1) * (z + 1)) ≤ length path
   level-room = fewer z (d - 1 + 1) h room (omega arith)
 
--- A loop over a path's buckets stands at level d, whose bucket's part begins at word a and ends where the next begins.
-pub record Walking (z h : ℕ) (path : List ℕ) (a d : ℕ) : Type 0 where
-  pub room : 4 * (h * (z + 1)) ≤ length path
-  pub since : 1 ≤ d
-  pub part : a + 4 * (z + 1) ≡ 4 * (d * (z + 1))
-
-module _ {z h : ℕ} {path : List ℕ} {a d : ℕ} (w : Walking z h path a d) where
-  pub walking-turns : Walking z h path (a + 4 * (z + 1)) (d + 1)
-  walking-turns = let p = w.part in record { room = w.room; since = omega arith; part = omega arith }
-
-  starts : a ≡ 4 * ((d - 1) * (z + 1))
-  starts = before d w.since w.part
-    where
-      before : (d : ℕ) → 1 ≤ d → a + 4 * (z + 1) ≡ 4 * (d * (z + 1)) → a ≡ 4 * ((d - 1) * (z + 1))
-      before zero l e = absurd (omega arith)
-      before (suc d) l e = let k : suc d - 1 ≡ d = omega arith in rw k (omega arith)
-
-  pub walking-ends : d ≤ h → a + 4 * (z + 1) ≤ length path
-  walking-ends most = let f = fewer z d h w.room most in omega (arith, w.part)
-
-  pub bucket-shown : d ≤ h → records (take (a + 4 * (z + 1) - a) (drop a path)) ≡ (shown_in z path d).least ∷ (shown_in z path d).slots
-  bucket-shown most =
-      let n : a + 4 * (z + 1) - a ≡ 4 * (z + 1) = omega arith in
-      rw (n, starts) (whole-records z path (d - 1) (level-room z path h d w.room w.since most))
+  -- its bucket's part, which begins at the word `start`
+  pub bucket-shown : (start : ℕ) → start ≡ (d - 1) * (4 * (z + 1))
+      → records (take (start + 4 * (z + 1) - start) (drop start path)) ≡ (shown_in z path d).least ∷ (shown_in z path d).slots
+  bucket-shown start e =
+      let n : start + 4 * (z + 1) - start ≡ 4 * (z + 1) = omega arith in
+      let a : start ≡ 4 * ((d - 1) * (z + 1)) = omega arith in
+      rw (n, a) (whole-records z path (d - 1) level-room)

@@ -17,17 +17,12 @@ use path::{Sizes, sibling};
 use record::{Bucket, Leaf, RECORD_WORDS, Record, Rule};
 
 // Whether the record may stand in this bucket of this level.
+#[tactic(auto, unfolding(crate::specs::Sound::sound))]
 fn is_sound(record: Record, sizes: Sizes, rule: Rule, level: u64, bucket: Bucket) -> bool
     requires { (sizes.h ≤ 16) × ((rule.leaves ≡ 2 ^ sizes.h) × (level ≤ sizes.h)) }
     ensures { result ≡ sound sizes.h rule level bucket «record» }
 {
-    if record.is_dummy() {
-        return true;
-    }
-    if !record.is_proper(rule) {
-        return false;
-    }
-    sizes.holds(record.label, level, bucket)
+    record.is_dummy() || (record.is_proper(rule) && sizes.holds(record.label, level, bucket))
 }
 
 // Every record of a bucket's part: its least record and its slots.
@@ -49,19 +44,13 @@ fn path_sound(path: &[u64], sizes: Sizes, leaf: Leaf, rule: Rule) -> bool
     requires { (Room sizes leaf path.now) × (rule.leaves ≡ 2 ^ sizes.h) }
     ensures { result ≡ path_sound sizes.h leaf (shown_in sizes.z path.now) rule }
 {
-    let h = sizes.h;
-    let z = sizes.z as usize;
-    let size = RECORD_WORDS * (z + 1);
-    let mut level = 1;
-    let mut a = 0;
-    while level <= h {
-        let e = a + size;
+    let size = RECORD_WORDS * (sizes.z as usize + 1);
+    for level in 1..=sizes.h {
+        let start = (level as usize - 1) * size;
         let bucket = sizes.bucket_at(leaf, level);
-        if !bucket_sound(&path[a..e], sizes, rule, level, bucket) {
+        if !bucket_sound(&path[start..start + size], sizes, rule, level, bucket) {
             return false;
         }
-        a = e;
-        level += 1;
     }
     true
 }
@@ -72,15 +61,12 @@ fn siblings_sound(sibs: &[u64], sizes: Sizes, leaf: Leaf, rule: Rule, from: u64)
     requires leaves_value { rule.leaves ≡ 2 ^ sizes.h }
     ensures { result ≡ siblings_sound sizes.h leaf (beside_in sibs.now) rule from }
 {
-    let h = sizes.h;
-    let mut level = from;
-    while level <= h {
-        let place = (level - 1) as usize;
+    for level in from..=sizes.h {
+        let least = Record::read(sibs, level as usize - 1);
         let bucket = sibling(sizes.bucket_at(leaf, level));
-        if !is_sound(Record::read(sibs, place), sizes, rule, level, bucket) {
+        if !is_sound(least, sizes, rule, level, bucket) {
             return false;
         }
-        level += 1;
     }
     true
 }
@@ -98,8 +84,5 @@ pub fn all_sound(
     requires leaves_value { rule.leaves ≡ 2 ^ sizes.h }
     ensures { result ≡ all_sound sizes.h rule (fetched_in sizes.z leaf path.now sibs.now) from }
 {
-    if !path_sound(path, sizes, leaf, rule) {
-        return false;
-    }
-    siblings_sound(sibs, sizes, leaf, rule, from)
+    path_sound(path, sizes, leaf, rule) && siblings_sound(sibs, sizes, leaf, rule, from)
 }

@@ -13,16 +13,11 @@ use record::{RECORD_WORDS, Record, Stamp};
 fn is_borne(w: &[u64], from: usize, stamp: Stamp) -> bool
     ensures { result ≡ not (every (λ y. not (bears stamp y)) (drop from (records w.now))) }
 {
-    let n = w.len() / RECORD_WORDS;
-    let mut i = from;
-    while i < n {
+    for i in from..w.len() / RECORD_WORDS {
         let other = Record::read(w, i);
-        if other.stamp.0 == stamp.0 {
-            if !other.is_dummy() {
-                return true;
-            }
+        if other.stamp == stamp && !other.is_dummy() {
+            return true;
         }
-        i += 1;
     }
     false
 }
@@ -31,13 +26,10 @@ fn is_borne(w: &[u64], from: usize, stamp: Stamp) -> bool
 pub fn stamp_twice(w: &[u64]) -> bool
     ensures { result ≡ stamp_twice (records w.now) }
 {
-    let n = w.len() / RECORD_WORDS;
-    for i in 0..n {
+    for i in 0..w.len() / RECORD_WORDS {
         let one = Record::read(w, i);
-        if !one.is_dummy() {
-            if is_borne(w, i + 1, one.stamp) {
-                return true;
-            }
+        if !one.is_dummy() && is_borne(w, i + 1, one.stamp) {
+            return true;
         }
     }
     false

@@ -6,6 +6,7 @@ use mathlib.Core.Path.{◌≡◌, refl, sym, ap, ◌∙◌}
 use native.Mathlib.Omega.{arith}
 use lib.ListN.{length, length-append, take-append-drop}
 use lib.Seq.{take_at}
+use Rattle.std.specs.Prelude.{Some}
 use Rattle.path.specs.Sizes.{in_range}
 use Rattle.path.specs.Layout.{tree_words}
 use Rattle.path.proofs.SizesLaws.{tree-range}
@@ -15,7 +16,6 @@ use Rattle.card.specs.declared.Card.{Card}
 use Rattle.card.specs.declared.Done.{Done}
 use Rattle.answers.specs.declared.Answer.TheVariants.{Refused}
 use Rattle.request.specs.declared.Request.{Request}
-use Rattle.request.specs.declared.Waiting.TheVariants.{For}
 use Rattle.request.specs.Tables.{waits}
 use Rattle.card.specs.Tables.{parts_of, request_table}
 use Rattle.card.specs.Calls.{with_waiting}
@@ -34,17 +34,16 @@ use Rattle.honest.proofs.RoundLaws.{round_number, round-done, round-ready}
 use Rattle.demands.specs.Queue.{Queue, reply, next}
 use Rattle.demands.specs.Says.{asks, says}
 use Rattle.demands.proofs.AnswerLaws.{queue_of, finish-says, next-events, next-taken}
-use Rattle.steps.specs.declared.Desk.{Desk}
-use Rattle.steps.specs.Step.{tree_words_used, used_of, tells, kept, head, rest, played}
+use Rattle.steps.specs.Step.{Desk, tree_words_used, used_of, tells, kept, head, rest, played}
 use Rattle.steady.specs.Steady.{Holds}
 
 -- the words of a tree that stands at the head of what is lent
-pub own-head : (desk : Desk) (tree rest : List ℕ) → in_range desk.card.sizes ≡ true
-    → length tree ≡ tree_words desk.card.sizes.h desk.card.sizes.z → head desk (tree ++ rest) ≡ tree
+pub own-head : (k : Card) (tree rest : List ℕ) → in_range k.sizes ≡ true
+    → length tree ≡ tree_words k.sizes.h k.sizes.z → head k (tree ++ rest) ≡ tree
 unfolding tree_words_used
-own-head desk tree rest e n =
-    let range = tree-range desk.card.sizes e in
-    let used : used_of desk.card.sizes.h desk.card.sizes.z (length (tree ++ rest)) ≡ length tree =
+own-head k tree rest e n =
+    let range = tree-range k.sizes e in
+    let used : used_of k.sizes.h k.sizes.z (length (tree ++ rest)) ≡ length tree =
     rw (range, length-append tree rest, ← n) (omega arith) in
     rw used (take_at tree rest (length tree) refl)
 
@@ -55,11 +54,7 @@ left-idle k l = refl
 
 module _ (desk : Desk) (tree : List ℕ) (q : Queue) (h : Holds desk tree q) where
   abbrev k : Card
-  k = desk.card
-
-  -- the desk that an answer hands back, where the card is as it was
-  pub own-desk : record { sized = true; card = k } ≡ desk
-  own-desk = λ i. record { sized = sym h.sized i; card = k }
+  k = h.card
 
   pub own-queue : queue_of h.live k.t ≡ q
   own-queue = λ i. record { events = h.events i; taken = h.taken i }
@@ -69,41 +64,41 @@ module _ (desk : Desk) (tree : List ℕ) (q : Queue) (h : Holds desk tree q) whe
     number = first_given (request_table k w)
 
     abbrev out : Done
-    out = round_done k w (head desk tree)
+    out = round_done k w (head k tree)
 
     abbrev after : List ℕ
-    after = round_tree k w (head desk tree)
+    after = round_tree k w (head k tree)
 
-    round_is : round_refusal k w (head desk tree) ≡ number
-    round_is = round_number k (head desk tree) h.live h.ready h.idle w word
+    round_is : round_refusal k w (head k tree) ≡ number
+    round_is = round_number k (head k tree) h.live h.ready h.idle w word
 
     -- ---- refused
     module _ (Some-number : number ≡ 0 → ⊥) where
-      kept-round : (out ≡ refused k (round_refusal k w (head desk tree))) × (after ≡ head desk tree)
-      kept-round = refused-round k w (head desk tree) (λ z. Some-number (sym round_is ∙ z))
+      kept-round : (out ≡ refused k (round_refusal k w (head k tree))) × (after ≡ head k tree)
+      kept-round = refused-round k w (head k tree) (λ z. Some-number (sym round_is ∙ z))
 
       refused-done : out ≡ refused k number
       refused-done = kept-round.0 ∙ ap (refused k) round_is
 
-      pub round-refused : played desk tree w ≡ record { turn = kept desk (Refused number); tree = tree }
+      pub round-refused : played k tree w ≡ record { turn = kept desk (Refused number); tree = tree }
       round-refused =
-          let turn : tells out ≡ kept desk (Refused number) = ap tells refused-done ∙ ap (λ (d : Desk). kept d (Refused number)) own-desk in
-          let whole : after ++ rest desk tree ≡ tree = rw (kept-round.1, take-append-drop) in
+          let turn : tells out ≡ kept desk (Refused number) = ap tells refused-done ∙ ap (λ (d : Desk). kept d (Refused number)) (sym h.sized) in
+          let whole : after ++ rest k tree ≡ tree = rw (kept-round.1, take-append-drop) in
           λ i. record { turn = turn i; tree = whole i }
 
     -- ---- answered
     module _ (none : number ≡ 0) where
       abbrev waiting : Card
-      waiting = with_waiting k (For w)
+      waiting = with_waiting k (Some w)
 
-      ready : Ready waiting (head desk tree) h.live
-      ready = begin-ready k (head desk tree) h.live w h.ready none
+      ready : Ready waiting (head k tree) h.live
+      ready = begin-ready k (head k tree) h.live w h.ready none
 
       abbrev left : Left
-      left = work_left waiting (head desk tree) w word_places
+      left = work_left waiting (head k tree) w word_places
 
       finished-done : out ≡ finished_by waiting w left
-      finished-done = round-done k (head desk tree) h.live h.ready h.idle w word none
+      finished-done = round-done k (head k tree) h.live h.ready h.idle w word none
 
       card-left : out.card ≡ card_left waiting left
       unfolding finished_by
@@ -114,7 +109,7 @@ module _ (desk : Desk) (tree : List ℕ) (q : Queue) (h : Holds desk tree q) whe
 
       pub round-says : says out.answer ≡ reply q (asks w)
       round-says =
-          ap (λ (d : Done). says d.answer) finished-done ∙ finish-says waiting (head desk tree) h.live ready w refl word_places
+          ap (λ (d : Done). says d.answer) finished-done ∙ finish-says waiting (head k tree) h.live ready w refl word_places
           ∙ ap (λ (p : Queue). reply p (asks w)) own-queue
 
       pub round-numbered : number_of out.answer ≡ 0
@@ -122,16 +117,17 @@ module _ (desk : Desk) (tree : List ℕ) (q : Queue) (h : Holds desk tree q) whe
           ap (λ (d : Done). number_of d.answer) finished-done ∙ finished-number waiting w _
 
       again : Ready out.card after (live_after (parts_of k) h.live w)
-      again = round-ready k (head desk tree) h.live h.ready h.idle w word none
+      again = round-ready k (head k tree) h.live h.ready h.idle w word none
 
-      pub round-holds : Holds (record { sized = true; card = out.card }) (after ++ rest desk tree) (next q (asks w))
+      pub round-holds : Holds (Some out.card) (after ++ rest k tree) (next q (asks w))
       round-holds =
           record {
+            card = out.card;
             sized = refl;
             live = live_after (parts_of k) h.live w;
-            ready = rw (own-head (record { sized = true; card = out.card }) after (rest desk tree) again.heap.sizes again.heap.words) again;
+            ready = rw (own-head out.card after (rest k tree) again.heap.sizes again.heap.words) again;
             idle = rw card-left (left-idle waiting left);
-            events = next-events waiting (head desk tree) h.live ready w refl ∙ ap (λ (p : Queue). (next p (asks w)).events) own-queue;
+            events = next-events waiting (head k tree) h.live ready w refl ∙ ap (λ (p : Queue). (next p (asks w)).events) own-queue;
             taken =
                 ap (λ (c : Card). c.t) card-left ∙ next-taken k.t h.live w
                 ∙ ap (λ (p : Queue). (next p (asks w)).taken) own-queue;

@@ -1,6 +1,6 @@
 -- One line on a desk that holds a queue, or none: what it comes to, and what the desk holds then. Assumes nothing.
 use Prim.Native.Nat.{ℕ}
-use mathlib.Core.Bool.{Bool, true, false, cond}
+use mathlib.Core.Bool.{true}
 use mathlib.Core.List.{List, []}
 use mathlib.Core.Logic.{inl, inr}
 use mathlib.Core.Option.{Option, none, some}
@@ -10,11 +10,12 @@ use native.Mathlib.Omega.{arith}
 use lib.Dec.{eqb}
 use lib.ListN.{length, length-map, drop}
 use borrow.Author.Tests.{eqb-true, eqb-false, eq-eqb, ne_eqb}
+use Rattle.std.specs.Prelude.{None}
 use Rattle.lists.specs.BucketList.{words_moved, sum}
 use Rattle.path.specs.declared.sizes.Sizes.{Sizes}
 use Rattle.path.specs.Sizes.{sizes_of, in_range}
 use Rattle.path.specs.Layout.{fresh_tree}
-use Rattle.refusal.specs.Refusal.{Refusal, first_given}
+use Rattle.refusal.specs.Refusal.{first_given}
 use Rattle.parts.specs.declared.Parts.{Parts}
 use Rattle.card.specs.declared.Card.{Card}
 use Rattle.answers.specs.declared.Answer.TheVariants.{Least, Refused}
@@ -26,17 +27,16 @@ use Rattle.card.specs.Answers.{refused, or_refused}
 use Rattle.card.specs.Calls.{call_table, fresh_card, found_min}
 use Rattle.served.proofs.CallLaws.{start-ready, ready-card}
 use Rattle.served.proofs.FinishedLaws.{WordKey}
-use Rattle.demands.specs.Queue.{Queue, find_min, empty_queue, least_event, reply, next, told}
+use Rattle.demands.specs.Queue.{Queue, find_min, empty_queue, least_event, next, told}
 use Rattle.demands.specs.Says.{event_of, asks}
 use Rattle.demands.specs.Refusals.{parts_told}
 use Rattle.demands.proofs.AnswerLaws.{least-told, parts-told}
 use Rattle.lines.specs.declared.Line.{Line}
 use Rattle.lines.specs.declared.Line.TheVariants.{Unreadable, Size, Min, Ask}
-use Rattle.steps.specs.declared.Desk.{Desk}
 use Rattle.steps.specs.declared.Turn.{Turn}
-use Rattle.steps.specs.Step.{LineLeft, nothing, unread, tells, kept, fresh, sized_to, too_large, tree_words_used, head, played, asked_for, min_done, min_of, step_of}
-use Rattle.steady.specs.Steady.{wants, refusals, Holds, Keeps, Unheard, unreadable, early, large, Turns, ignored, mis_sized, sized_anew, refused_with, answered}
-use Rattle.steady.proofs.HeldLaws.{own-head, own-desk, own-queue, round-refused, round-sizes, round-says, round-numbered, round-holds}
+use Rattle.steps.specs.Step.{Desk, LineLeft, nothing, tells, kept, fresh, sized_to, too_large, tree_words_used, head, played, asked_for, min_done, min_of, step_of}
+use Rattle.steady.specs.Steady.{refusals, Holds, Keeps, Unheard, unreadable, early, large, Turns, ignored, mis_sized, sized_anew, refused_with, answered}
+use Rattle.steady.proofs.HeldLaws.{own-head, own-queue, round-refused, round-sizes, round-says, round-numbered, round-holds}
 
 -- a line played: what it comes to, and that the desk keeps what is then held
 pub record Played (desk : Desk) (tree : List ℕ) (q : Option Queue) (line : Line) (l : LineLeft) : Type 0 where
@@ -58,9 +58,10 @@ module _ (desk : Desk) (tree : List ℕ) (q : Option Queue) (k : Keeps desk tree
     fresh_keeps e =
         let r = start-ready s e in
         record {
+          card = fresh_card s;
           sized = refl;
           live = [];
-          ready = rw (own-head (record { sized = true; card = fresh_card s }) (fresh_tree h z) (drop (tree_words_used h z) tree) e r.heap.words) r;
+          ready = rw (own-head (fresh_card s) (fresh_tree h z) (drop (tree_words_used h z) tree) e r.heap.words) r;
           idle = refl;
           events = refl;
           taken = refl;
@@ -71,37 +72,40 @@ module _ (desk : Desk) (tree : List ℕ) (q : Option Queue) (k : Keeps desk tree
     size-line = elim (dichotomy (in_range s)) [
       | inl f ↦ rw f (record { held = q; turns = mis_sized h z r t refl f refl; keeps = k })
       | inr e ↦ elim (dichotomy (too_large (length tree) s)) [
-        | inl f ↦ rw (e, f) (record { held = some empty_queue; turns = sized_anew h z r t refl e f refl refl; keeps = fresh_keeps e })
+        | inl f ↦ rw (e, f) (record { held = some empty_queue; turns = sized_anew h z r t (fresh_card s) refl e f refl refl refl; keeps = fresh_keeps e })
         | inr l ↦ rw (e, l) (stays (large e l) refl)
       ]
     ]
 
 -- ---- a line that asks something of the card
 module _ (desk : Desk) (tree : List ℕ) (q : Queue) (h : Holds desk tree q) where
-  asked-played : (w : Request) → played desk tree w ≡ asked_for desk tree w
+  abbrev k : Card
+  k = h.card
+
+  asked-played : (w : Request) → played k tree w ≡ asked_for desk tree w
   unfolding asked_for
-  asked-played w = ap (λ (b : Bool). cond b (played desk tree w) (nothing desk tree)) (sym h.sized)
+  asked-played w = sym (ap (λ (d : Desk). asked_for d tree w) h.sized)
 
   -- the rows of a request, in the queue's words
-  events-counted : desk.card.c ≡ length q.events
+  events-counted : k.c ≡ length q.events
   events-counted = h.ready.heap.count ∙ sym (length-map h.live event_of) ∙ ap length h.events
 
   module _ (w : Request) (word : WordKey w) where
-    own-number : first_given (request_table desk.card w) ≡ first_given (refusals desk.card q (Ask w))
+    own-number : first_given (request_table k w) ≡ first_given (refusals k q (Ask w))
     own-number =
-        ap (λ (p : Parts). first_given (request_rows p desk.card.root w))
-        (parts-told desk.card (head desk tree) h.live h.ready ∙ ap (parts_told desk.card.sizes) (own-queue desk tree q h))
+        ap (λ (p : Parts). first_given (request_rows p k.root w))
+        (parts-told k (head k tree) h.live h.ready ∙ ap (parts_told k.sizes) (own-queue desk tree q h))
 
     -- refused by the first of its own rows that is given, or answered
-    played-line : Played desk tree (some q) (Ask w) (played desk tree w)
-    played-line = elim (dichotomy (eqb (first_given (request_table desk.card w)) 0)) [
+    played-line : Played desk tree (some q) (Ask w) (played k tree w)
+    played-line = elim (dichotomy (eqb (first_given (request_table k w)) 0)) [
       | inl f ↦
           let n = eqb-false _ _ f in
           let e = round-refused desk tree q h w word n in
           record {
             held = some q;
             turns =
-                refused_with q refl (λ z. n (own-number ∙ z))
+                refused_with q k refl h.sized (λ z. n (own-number ∙ z))
                 (e ∙ ap (λ (m : ℕ). record { turn = kept desk (Refused m); tree = tree }) own-number);
             keeps = subst (λ (l : LineLeft). Keeps l.turn.desk l.tree (some q)) (sym e) h;
           }
@@ -110,7 +114,7 @@ module _ (desk : Desk) (tree : List ℕ) (q : Queue) (h : Holds desk tree q) whe
           record {
             held = some (next q (asks w));
             turns =
-                answered q (asks w) _ refl refl (sym own-number ∙ n) (round-sizes desk tree q h w word n) refl (round-numbered desk tree q h w word n)
+                answered q (asks w) _ k _ refl refl h.sized (sym own-number ∙ n) refl (round-sizes desk tree q h w word n) refl (round-numbered desk tree q h w word n)
                 (round-says desk tree q h w word n);
             keeps = round-holds desk tree q h w word n;
           }
@@ -120,27 +124,24 @@ module _ (desk : Desk) (tree : List ℕ) (q : Queue) (h : Holds desk tree q) whe
     asked-line = subst (Played desk tree (some q) (Ask w)) (asked-played w) played-line
 
   -- ---- `min`
-  abbrev k : Card
-  k = desk.card
-
   min-told : min_of desk ≡ tells (min_done k)
   unfolding min_of
-  min-told = ap (λ (b : Bool). cond b (tells (min_done k)) (unread desk)) h.sized
+  min-told = ap min_of h.sized
 
   none-least : k.c ≡ 0 → min_done k ≡ refused k 8
   unfolding call_table call_rows first_given or_refused
-  none-least e = rw (ready-card k (head desk tree) h.live h.ready, h.idle, eq-eqb k.c 0 e)
+  none-least e = rw (ready-card k (head k tree) h.live h.ready, h.idle, eq-eqb k.c 0 e)
 
   some-least : (k.c ≡ 0 → ⊥) → min_done k ≡ found_min k
   unfolding call_table call_rows first_given or_refused
-  some-least n = rw (ready-card k (head desk tree) h.live h.ready, h.idle, ne_eqb k.c 0 n)
+  some-least n = rw (ready-card k (head k tree) h.live h.ready, h.idle, ne_eqb k.c 0 n)
 
   min-empty : k.c ≡ 0 → min_of desk ≡ kept desk (Refused 8)
-  min-empty e = min-told ∙ ap tells (none-least e) ∙ ap (λ (d : Desk). kept d (Refused 8)) (own-desk desk tree q h)
+  min-empty e = min-told ∙ ap tells (none-least e) ∙ ap (λ (d : Desk). kept d (Refused 8)) (sym h.sized)
 
   min-found : (k.c ≡ 0 → ⊥) → min_of desk ≡ kept desk (Least k.least 0)
   unfolding words_moved sum
-  min-found n = min-told ∙ ap tells (some-least n) ∙ ap (λ (d : Desk). kept d (Least k.least 0)) (own-desk desk tree q h)
+  min-found n = min-told ∙ ap tells (some-least n) ∙ ap (λ (d : Desk). kept d (Least k.least 0)) (sym h.sized)
 
   given-eight : length q.events ≡ 0 → first_given (refusals k q Min) ≡ 8
   unfolding first_given
@@ -158,8 +159,8 @@ module _ (desk : Desk) (tree : List ℕ) (q : Queue) (h : Holds desk tree q) whe
         record {
           held = some q;
           turns =
-              answered q find_min (Least k.least 0) refl refl (given-none (λ z. n (events-counted ∙ z))) (ap (λ (t : Turn). t.desk.card.sizes) e) (ap (λ (t : Turn). t.reply) e) refl
-              (ap told (sym (least-told k (head desk tree) h.live h.ready (omega (arith, n))) ∙ ap least_event h.events));
+              answered q find_min (Least k.least 0) k k refl refl h.sized (given-none (λ z. n (events-counted ∙ z))) (ap (λ (t : Turn). t.desk) e ∙ h.sized) refl (ap (λ (t : Turn). t.reply) e) refl
+              (ap told (sym (least-told k (head k tree) h.live h.ready (omega (arith, n))) ∙ ap least_event h.events));
           keeps = rw e h;
         }
     | inr t ↦
@@ -169,7 +170,7 @@ module _ (desk : Desk) (tree : List ℕ) (q : Queue) (h : Holds desk tree q) whe
         record {
           held = some q;
           turns =
-              refused_with q refl (λ n. omega (arith, eight, n))
+              refused_with q k refl h.sized (λ n. omega (arith, eight, n))
               (rw eight (ap (λ (u : Turn). record { turn = u; tree = tree }) e));
           keeps = rw e h;
         }
@@ -191,7 +192,7 @@ module _ (desk : Desk) (tree : List ℕ) where
   held-line q h (Ask r) word = asked-line desk tree q h r word
 
   -- before any accepted `size`
-  early-line : desk.sized ≡ false → (line : Line) → Played desk tree none line (step_of desk line tree)
+  early-line : desk ≡ None → (line : Line) → Played desk tree none line (step_of desk line tree)
   unfolding step_of asked_for min_of
   early-line e Unreadable = stays desk tree none e unreadable refl
   early-line e (Size height z r t) = size-line desk tree none e height z r t

@@ -7,6 +7,7 @@ use mathlib.Core.Path.{◌≡◌, refl}
 use native.Mathlib.Omega.{arith}
 use lib.Dec.{eqb, leb}
 use lib.ListN.{length}
+use Rattle.std.specs.Prelude.{None}
 use Rattle.decimal.specs.Digits.{value}
 use Rattle.decimal.specs.Field.{is_number}
 use Rattle.decimal.proofs.DecimalLaws.{number-plain}
@@ -17,7 +18,7 @@ use Rattle.fields.specs.Pieces.{same_bytes, fields_of}
 use Rattle.lines.specs.Says.{lines_of}
 use Rattle.lines.specs.Says.{Kind, said_of, said_by, fields_say, line_most, line_says, at, size_kind, insert_kind, min_kind, extract_kind, delete_kind}
 use Rattle.fields.specs.Behind.{all_numbers}
-use Rattle.steps.specs.declared.Desk.{Desk}
+use Rattle.steps.specs.Step.{Desk}
 use Rattle.steady.specs.Steady.{Keeps, SitsBeside, ended, turned}
 use Rattle.steady.proofs.LineLaws.{WordLine, one_line}
 
@@ -61,5 +62,5 @@ follow (line ∷ lines) desk tree q k =
     turned k p.turns (follow lines _ _ p.held p.keeps)
 
 -- Whatever bytes come in: a desk with no size yet, and any words lent.
-pub steady : (desk : Desk) (tree input : List ℕ) → desk.sized ≡ false → SitsBeside desk tree none (map line_says (lines_of input))
+pub steady : (desk : Desk) (tree input : List ℕ) → desk ≡ None → SitsBeside desk tree none (map line_says (lines_of input))
 steady desk tree input e = follow (lines_of input) desk tree none e

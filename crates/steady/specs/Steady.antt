@@ -1,6 +1,6 @@
 -- The desk beside the plain queue: document 01, "The desk program reads lines and plays both sides." Whatever lines come, each is
 -- answered as the queue answers it, or changes nothing. Proved as `steady` in proofs/SteadyLaws.antt. Assumes nothing.
-use Rattle.std.specs.Prelude.{ℕ, Bool, true, false, List, [], ◌∷◌, map, ◌≡◌, eqb, length}
+use Rattle.std.specs.Prelude.{ℕ, Bool, true, false, Some, None, List, [], ◌∷◌, map, ◌≡◌, eqb, length}
 use Rattle.std.proofs.Math.Option.{Option, none, some}
 use Rattle.record.specs.declared.Record.{Record}
 use Rattle.path.specs.Sizes.{sizes_of, in_range}
@@ -16,9 +16,7 @@ use Rattle.demands.specs.Refusals.{parts_told}
 use Rattle.demands.specs.Says.{event_of, asks, says}
 use Rattle.lines.specs.declared.Line.{Line}
 use Rattle.lines.specs.declared.Line.TheVariants.{Unreadable, Size, Min, Ask}
-use Rattle.steps.specs.declared.Desk.{Desk}
-use Rattle.steps.specs.declared.Reply.TheVariants.{Said}
-use Rattle.steps.specs.Step.{LineLeft, nothing, kept, head, too_large, step_of}
+use Rattle.steps.specs.Step.{Desk, LineLeft, nothing, kept, head, too_large, step_of}
 
 -- what a line asks of the queue: a `size` asks nothing of the one that was
 abbrev pub wants : Line → Option Operation
@@ -38,16 +36,17 @@ refusals k q (Ask r) = request_rows (parts_told k.sizes q) k.root r
 -- ---- between two lines
 -- the desk holds this queue: card and tree hold a good heap of its events, and no request waits
 pub record Holds (desk : Desk) (tree : List ℕ) (q : Queue) : Type 0 where
-  pub sized : desk.sized ≡ true
+  pub card : Card
+  pub sized : desk ≡ Some card
   pub live : List Record
-  pub ready : Ready desk.card (head desk tree) live
-  pub idle : waits desk.card.waiting ≡ false
+  pub ready : Ready card (head card tree) live
+  pub idle : waits card.waiting ≡ false
   pub events : map event_of live ≡ q.events
-  pub taken : desk.card.t ≡ q.taken
+  pub taken : card.t ≡ q.taken
 
 -- and none before a `size` was accepted
 abbrev pub Keeps : Desk → List ℕ → Option Queue → Type 0
-Keeps desk tree none = desk.sized ≡ false
+Keeps desk tree none = desk ≡ None
 Keeps desk tree (some q) = Holds desk tree q
 
 -- ---- one line
@@ -77,17 +76,17 @@ module _ (desk : Desk) (tree : List ℕ) (q : Option Queue) (line : Line) (l : L
         → l ≡ record { turn = kept desk (Refused 1); tree = tree } → Turns q
     -- "`size h Z R T` starts afresh", with these sizes
     sized_anew :
-        (h z r t : ℕ) → line ≡ Size h z r t → in_range (sizes_of h z r t) ≡ true → too_large (length tree) (sizes_of h z r t) ≡ false
-        → l.turn.desk.card.sizes ≡ sizes_of h z r t → l.turn.reply ≡ Said Started → Turns (some empty_queue)
+        (h z r t : ℕ) (k : Card) → line ≡ Size h z r t → in_range (sizes_of h z r t) ≡ true → too_large (length tree) (sizes_of h z r t) ≡ false
+        → l.turn.desk ≡ Some k → k.sizes ≡ sizes_of h z r t → l.turn.reply ≡ Some Started → Turns (some empty_queue)
     -- the first of the line's refusals that is given, and nothing changes
     refused_with :
-        (p : Queue) → q ≡ some p → (first_given (refusals desk.card p line) ≡ 0 → ⊥)
-        → l ≡ record { turn = kept desk (Refused (first_given (refusals desk.card p line))); tree = tree } → Turns q
+        (p : Queue) (k : Card) → q ≡ some p → desk ≡ Some k → (first_given (refusals k p line) ≡ 0 → ⊥)
+        → l ≡ record { turn = kept desk (Refused (first_given (refusals k p line))); tree = tree } → Turns q
     -- where none is given: as the queue answers, and the sizes stay
     answered :
-        (p : Queue) (w : Operation) (a : Answer) → q ≡ some p → wants line ≡ some w → first_given (refusals desk.card p line) ≡ 0
-        → l.turn.desk.card.sizes ≡ desk.card.sizes → l.turn.reply ≡ Said a → number_of a ≡ 0 → says a ≡ reply p w
-        → Turns (some (next p w))
+        (p : Queue) (w : Operation) (a : Answer) (k j : Card) → q ≡ some p → wants line ≡ some w → desk ≡ Some k
+        → first_given (refusals k p line) ≡ 0 → l.turn.desk ≡ Some j → j.sizes ≡ k.sizes → l.turn.reply ≡ Some a → number_of a ≡ 0
+        → says a ≡ reply p w → Turns (some (next p w))
 
 -- ---- every list of lines
 pub data SitsBeside : Desk → List ℕ → Option Queue → List Line → Type 0 where

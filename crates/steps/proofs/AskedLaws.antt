@@ -1,12 +1,12 @@
 -- A line that asks something of the card: `?` on a desk that has no size, else what the round or FindMin comes to. Assumes nothing.
 use Prim.Native.Nat.{ℕ}
-use mathlib.Core.Bool.{Bool, true, false, not, cond}
 use mathlib.Core.List.{List, ◌++◌}
 use mathlib.Core.Path.{◌≡◌, refl, sym, ap, ◌∙◌}
 use lib.ListN.{length, take, drop}
-use borrow.Author.Tests.{not-true, not-false}
+use Rattle.std.specs.Prelude.{Some, None}
 use Rattle.refusal.specs.Refusal.{first_given}
 use Rattle.request.specs.declared.Request.{Request}
+use Rattle.card.specs.declared.Card.{Card}
 use Rattle.card.specs.declared.Done.{Done}
 use Rattle.card.specs.Answers.{Answered}
 use Rattle.card.specs.Calls.{min_table, found_min}
@@ -14,15 +14,19 @@ use Rattle.lines.specs.declared.Line.{Line}
 use Rattle.lines.specs.declared.Line.TheVariants.{Unreadable, Min, Ask}
 use Rattle.rounds.specs.Round.{Plays, round_done, round_tree}
 use Rattle.rounds.proofs.RoundLaws.{comes-to}
-use Rattle.steps.specs.declared.Desk.{Desk}
 use Rattle.steps.specs.declared.Turn.{Turn}
-use Rattle.steps.specs.Step.{unread, tells, used_of, LineLeft, nothing, played, asked_for, min_done, min_of, step_of, Steps}
+use Rattle.steps.specs.Step.{Desk, unread, tells, used_of, LineLeft, nothing, played, asked_for, min_of, step_of, Steps}
 
 -- a step is known by what its line leaves
 pub steps-as : (desk : Desk) (line : Line) (tree after : List ℕ) (turn : Turn) (l : LineLeft) → step_of desk line tree ≡ l → turn ≡ l.turn → after ≡ l.tree
     → Steps desk line tree after turn
 steps-as desk line tree after turn l own t a =
     record { said = t ∙ sym (ap (λ (x : LineLeft). x.turn) own); lent = a ∙ sym (ap (λ (x : LineLeft). x.tree) own) }
+
+-- a desk with no card, as the `else` of a `let` knows it
+unsized : (desk : Desk) → ((k : Card) → desk ≡ Some k → ⊥) → desk ≡ None
+unsized None n = refl
+unsized (Some k) n = absurd (n k refl)
 
 module _ (desk : Desk) (tree : List ℕ) where
   pub unread-line : (turn : Turn) → turn ≡ unread desk → Steps desk Unreadable tree tree turn
@@ -35,28 +39,28 @@ module _ (desk : Desk) (tree : List ℕ) where
 
   -- a line that asks for this request
   module _ (r : Request) where
-    pub not-sized : (turn : Turn) → not desk.sized ≡ true → turn ≡ unread desk → Steps desk (Ask r) tree tree turn
+    pub not-sized : (turn : Turn) → ((k : Card) → desk ≡ Some k → ⊥) → turn ≡ unread desk → Steps desk (Ask r) tree tree turn
     unfolding step_of asked_for
-    not-sized turn h e = steps-as desk (Ask r) tree tree turn (nothing desk tree) (rw (not-true desk.sized h)) e refl
+    not-sized turn h e = steps-as desk (Ask r) tree tree turn (nothing desk tree) (rw (unsized desk h)) e refl
 
     pub was-asked :
-        (n : ℕ) (part after : List ℕ) (done : Done) (turn : Turn) → not desk.sized ≡ false
-        → n ≡ used_of desk.card.sizes.h desk.card.sizes.z (length tree) → Plays desk.card r (take n tree) part done
+        (k : Card) (n : ℕ) (part after : List ℕ) (done : Done) (turn : Turn) → desk ≡ Some k
+        → n ≡ used_of k.sizes.h k.sizes.z (length tree) → Plays k r (take n tree) part done
         → after ≡ part ++ drop n tree → turn ≡ tells done → Steps desk (Ask r) tree after turn
     unfolding step_of asked_for
-    was-asked n part after done turn h m p a e =
-        let c = comes-to desk.card r (take n tree) part done p in
-        steps-as desk (Ask r) tree after turn (played desk tree r) (rw (not-false desk.sized h))
-        (e ∙ ap tells (c.0 ∙ ap (λ (x : ℕ). round_done desk.card r (take x tree)) m))
-        (a ∙ ap (λ (x : List ℕ). x ++ drop n tree) c.1 ∙ ap (λ (x : ℕ). round_tree desk.card r (take x tree) ++ drop x tree) m)
+    was-asked k n part after done turn h m p a e =
+        let c = comes-to k r (take n tree) part done p in
+        steps-as desk (Ask r) tree after turn (played k tree r) (rw h)
+        (e ∙ ap tells (c.0 ∙ ap (λ (x : ℕ). round_done k r (take x tree)) m))
+        (a ∙ ap (λ (x : List ℕ). x ++ drop n tree) c.1 ∙ ap (λ (x : ℕ). round_tree k r (take x tree) ++ drop x tree) m)
 
 -- FindMin
 module _ (desk : Desk) (turn : Turn) where
-  pub min-unsized : not desk.sized ≡ true → turn ≡ unread desk → turn ≡ min_of desk
+  pub min-unsized : ((k : Card) → desk ≡ Some k → ⊥) → turn ≡ unread desk → turn ≡ min_of desk
   unfolding min_of
-  min-unsized h e = e ∙ sym (ap (λ (x : Bool). cond x (tells (min_done desk.card)) (unread desk)) (not-true desk.sized h))
+  min-unsized h e = e ∙ rw (unsized desk h)
 
-  pub min-sized : not desk.sized ≡ false → (done : Done) → Answered desk.card (first_given (min_table desk.card)) (found_min desk.card) done
+  pub min-sized : (k : Card) → desk ≡ Some k → (done : Done) → Answered k (first_given (min_table k)) (found_min k) done
       → turn ≡ tells done → turn ≡ min_of desk
   unfolding min_of
-  min-sized h done a e = rw (not-false desk.sized h) (e ∙ ap tells a.whole)
+  min-sized k h done a e = rw h (e ∙ ap tells a.whole)

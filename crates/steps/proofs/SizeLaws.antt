@@ -2,25 +2,26 @@
 use Prim.Native.Nat.{ℕ, ◌≤◌, ◌<◌}
 use mathlib.Core.Bool.{Bool, true, false, not, or-true}
 use mathlib.Core.List.{List, ◌++◌}
+use mathlib.Core.Logic.{◌⊎◌, inl, inr}
 use mathlib.Core.Path.{◌≡◌, refl, sym, ap, ◌∙◌}
 use lib.Dec.{ltb}
 use lib.ListN.{length, take, drop}
 use lib.Seq.{length-take-le}
 use borrow.Author.Tests.{not-true, not-false, lt-ltb, le-ltb, eq-eqb}
+use Rattle.std.specs.Prelude.{Result, ⊤}
 use Rattle.path.specs.Sizes.{sizes_of, tree_in, in_range}
 use Rattle.path.specs.Layout.{tree_words, fresh_tree}
 use Rattle.path.proofs.SizesLaws.{tree-range}
+use Rattle.refusal.specs.declared.Reason.{Reason}
 use Rattle.refusal.specs.Refusal.{first_given}
-use Rattle.rack.specs.declared.Answer.{Answer}
 use Rattle.rack.specs.Answers.{fill_refusal}
 use Rattle.rack.specs.Promises.{Fills}
 use Rattle.card.specs.declared.Done.{Done}
 use Rattle.card.specs.Answers.{refused, or_refused, Answered}
 use Rattle.card.specs.Calls.{zero_card, start_table, started}
 use Rattle.lines.specs.declared.Line.TheVariants.{Size}
-use Rattle.steps.specs.declared.Desk.{Desk}
 use Rattle.steps.specs.declared.Turn.{Turn}
-use Rattle.steps.specs.Step.{unread, kept, tells, tree_words_used, tree_most, too_large, nothing, fresh, sized_to, step_of, Steps}
+use Rattle.steps.specs.Step.{Desk, unread, kept, tells, tree_words_used, tree_most, too_large, nothing, fresh, sized_to, step_of, Steps}
 use Rattle.steps.proofs.AskedLaws.{steps-as}
 
 module _ (desk : Desk) (h z r t : ℕ) (tree : List ℕ) (done : Done) (a : Answered zero_card (first_given (start_table (sizes_of h z r t))) (started (sizes_of h z r t)) done)
@@ -44,11 +45,10 @@ module _ (desk : Desk) (h z r t : ℕ) (tree : List ℕ) (done : Done) (a : Answ
     unfolding sized_to
     large l turn k = steps-as desk (Size h z r t) tree tree turn (nothing desk tree) (sized-as ∙ rw (within, l)) k refl
 
-    pub over-most : tree_most < words → (turn : Turn) → turn ≡ unread desk → Steps desk (Size h z r t) tree tree turn
-    over-most l = large (rw (← m, lt-ltb tree_most words l))
-
-    pub over-lent : length tree < words → (turn : Turn) → turn ≡ unread desk → Steps desk (Size h z r t) tree tree turn
-    over-lent l = large (rw (← m, lt-ltb (length tree) words l) (or-true (ltb tree_most words)))
+    pub over : (tree_most < words) ⊎ ((words ≤ tree_most) × (length tree < words)) → (turn : Turn) → turn ≡ unread desk
+        → Steps desk (Size h z r t) tree tree turn
+    over (inl l) = large (rw (← m, lt-ltb tree_most words l))
+    over (inr l) = large (rw (← m, lt-ltb (length tree) words l.1) (or-true (ltb tree_most words)))
 
     module _ (few : words ≤ tree_most) (lent : words ≤ length tree) where
       small : too_large (length tree) (sizes_of h z r t) ≡ false
@@ -69,7 +69,7 @@ module _ (desk : Desk) (h z r t : ℕ) (tree : List ℕ) (done : Done) (a : Answ
       unfolding start_table first_given or_refused
       begun = rw within at a.whole
 
-      pub afresh : (s : Answer) (part after : List ℕ) → Fills h z (take words tree) s part → after ≡ part ++ drop words tree
+      pub afresh : (s : Result ⊤ Reason) (part after : List ℕ) → Fills h z (take words tree) s part → after ≡ part ++ drop words tree
           → (turn : Turn) → turn ≡ tells done → Steps desk (Size h z r t) tree after turn
       unfolding sized_to
       afresh s part after f p turn k =

@@ -1,5 +1,5 @@
 -- What the desk does with a line: document 01, "What the desk sees". Assumes nothing.
-use Rattle.std.specs.Prelude.{ℕ, min, Bool, true, cond, ◌||◌, List, ◌++◌, ◌≡◌, ltb, length, take, drop}
+use Rattle.std.specs.Prelude.{ℕ, min, Bool, cond, ◌||◌, Option, Some, None, List, ◌++◌, ◌≡◌, ltb, length, take, drop}
 use Rattle.path.specs.declared.sizes.Sizes.{Sizes}
 use Rattle.path.specs.Sizes.{sizes_of, tree_in, in_range}
 use Rattle.path.specs.Layout.{tree_words, fresh_tree}
@@ -14,22 +14,24 @@ use Rattle.card.specs.Calls.{started, min_table, found_min}
 use Rattle.lines.specs.declared.Line.{Line}
 use Rattle.lines.specs.declared.Line.TheVariants.{Unreadable, Size, Min, Ask}
 use Rattle.rounds.specs.Round.{round_done, round_tree}
-use Rattle.steps.specs.declared.Desk.{Desk}
-use Rattle.steps.specs.declared.Reply.TheVariants.{Unreadable as Question, Said}
 use Rattle.steps.specs.declared.Turn.{Turn}
 
--- ---- the reply
+-- the desk between two lines: its card, or none until a `size` is accepted
+abbrev pub Desk : Type 0
+Desk = Option Card
+
+-- ---- the reply: an answer, or none, which prints `?`
 -- "prints `?` and changes nothing"
 abbrev pub unread : Desk → Turn
-unread desk = record { desk = desk; reply = Question }
+unread desk = record { desk = desk; reply = None }
 
 -- an answer that leaves the desk as it was
 abbrev pub kept : Desk → Answer → Turn
-kept desk answer = record { desk = desk; reply = Said answer }
+kept desk answer = record { desk = desk; reply = Some answer }
 
 -- an answer, and the card that came of it
 abbrev pub tells : Done → Turn
-tells d = kept (record { sized = true; card = d.card }) d.answer
+tells d = kept (Some d.card) d.answer
 
 -- ---- the tree at the head of the lent words
 -- "The tree has exactly 4(Z+1)(2N-2) words"; none for sizes out of range
@@ -65,27 +67,30 @@ module _ (desk : Desk) (tree : List ℕ) where
       cond (in_range s) (cond (too_large (length tree) s) nothing (fresh s))
       (record { turn = kept desk (Refused 1); tree = tree })
 
-  -- a request played on the card and on its tree
+-- a request played on the card and on its tree
+module _ (k : Card) (tree : List ℕ) where
   abbrev pub head : List ℕ
-  head = take (used_of desk.card.sizes.h desk.card.sizes.z (length tree)) tree
+  head = take (used_of k.sizes.h k.sizes.z (length tree)) tree
 
   abbrev pub rest : List ℕ
-  rest = drop (used_of desk.card.sizes.h desk.card.sizes.z (length tree)) tree
+  rest = drop (used_of k.sizes.h k.sizes.z (length tree)) tree
 
   abbrev pub played : Request → LineLeft
   played r =
-      record { turn = tells (round_done desk.card r head); tree = round_tree desk.card r head ++ rest }
+      record { turn = tells (round_done k r head); tree = round_tree k r head ++ rest }
 
-  -- "one other than `size` before any accepted `size` .. prints `?`"
-  unfoldable pub asked_for : Request → LineLeft
-  asked_for r = cond desk.sized (played r) nothing
+-- "one other than `size` before any accepted `size` .. prints `?`"
+unfoldable pub asked_for : Desk → List ℕ → Request → LineLeft
+asked_for None tree r = nothing None tree
+asked_for (Some k) tree r = played k tree r
 
 -- FindMin: no bucket is fetched
 abbrev pub min_done : Card → Done
 min_done k = or_refused k (first_given (min_table k)) (found_min k)
 
 unfoldable pub min_of : Desk → Turn
-min_of desk = cond desk.sized (tells (min_done desk.card)) (unread desk)
+min_of None = unread None
+min_of (Some k) = tells (min_done k)
 
 unfoldable pub step_of : Desk → Line → List ℕ → LineLeft
 step_of desk Unreadable tree = nothing desk tree

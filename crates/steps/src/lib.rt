@@ -10,22 +10,12 @@ use card::Card;
 pub use ends::{kept_by, told_by, unread_by};
 pub use room::{tree_words, used};
 
-// The desk between two lines. Until a `size` is accepted `sized` is false, and its card means nothing.
-#[derive(Clone, Copy)]
-pub struct Desk {
-    pub sized: bool,
-    pub card: Card,
-}
+// The desk between two lines: its card, or none until a `size` is accepted.
+pub type Desk = Option<Card>;
 
-// What is printed for a line: `?`, or an answer of the card.
-#[derive(Clone, Copy)]
-pub enum Reply {
-    Unreadable,
-    Said(Answer),
-}
-
+// What a line comes to: the desk behind it, and the answer that is printed; none where the line is not understood, which prints `?`.
 #[derive(Clone, Copy)]
 pub struct Turn {
     pub desk: Desk,
-    pub reply: Reply,
+    pub reply: Option<Answer>,
 }

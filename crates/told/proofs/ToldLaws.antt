@@ -8,19 +8,7 @@ use Rattle.answers.specs.Answers.{number_of, values_of}
 use Rattle.card.specs.Answers.{or_refused, Answered}
 use Rattle.image.specs.Image.{image_of}
 use Rattle.refusal.specs.Refusal.{afterwards}
-use Rattle.refusal.proofs.RefusalLaws.{left-before, left-done}
 use Rattle.told.specs.Told.{Said, Answering, Called, Settled}
-
--- ---- settled
-module _
-    (done : Done) (held : List ℕ) (n : ℕ) (told' : List ℕ) (s : Said (number_of done.answer) (values_of done.answer) n told')
-  where
-    pub settled-refused : (n ≡ 0 → ⊥) → Settled done held n held told'
-    settled-refused h = record { said = s; card = sym (left-before (number_of done.answer) _ held (λ e. h (s.number ∙ e))) }
-
-    pub settled-done : (held' : List ℕ) → n ≡ 0 → held' ≡ image_of done.card → Settled done held n held' told'
-    settled-done held' h c =
-        record { said = s; card = c ∙ sym (left-done (number_of done.answer) _ held (sym s.number ∙ h)) }
 
 -- ---- a call that was settled
 module _ (k : Card) (number : ℕ) (done d : Done) (n : ℕ) (told' : List ℕ) (a : Answered k number done d) where

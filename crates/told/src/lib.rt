@@ -1,17 +1,20 @@
 // What a driver is told: document 01, "Any refusal returns its number with every other field 0; card and lent slices are as
 // before".
 //
+// Kept: the number of a refusal, and no `Reason`: it is what the entrance for C returns.
+//
 // A call returns its number and leaves six words of answer where the driver lent them, all 0 for a refusal. The card's words are
-// written unless the call is refused. Stands on `refusal`, `answers`, `card`, `rack` and `image`.
+// written unless the call is refused. Stands on `refusal`, `answers`, `card` and `image`.
 #![tactic(auto)]
 
 ghost use Rattle.answers.specs.Answers.{number_of, values_of};
-ghost use Rattle.rack.specs.Answers.{answer_number};
+ghost use Rattle.refusal.specs.Reason.{refusal_in};
 ghost use Rattle.told.specs.Told.{Said, Settled, Zeroed};
 
 use answers::Answer;
 use card::Done;
 use image::CARD_WORDS;
+use refusal::Reason;
 
 // How many words an answer is.
 pub const ANSWER_WORDS: usize = 6;
@@ -28,20 +31,17 @@ pub fn say(said: Answer, answer: &mut [u64; ANSWER_WORDS]) -> u64
 pub fn settle(done: Done, card: &mut [u64; CARD_WORDS], answer: &mut [u64; ANSWER_WORDS]) -> u64
     ensures { Settled done card.old result card.new answer.new }
 {
-    let said = done.answer;
-    let number = say(said, answer);
-    if number != 0 {
-        return number;
+    let number = say(done.answer, answer);
+    if number == 0 {
+        image::write(done.card, card);
     }
-    let after = done.card;
-    image::write(after, card);
     number
 }
 
 // For crates above: a rack's call, its number and an answer of zeros.
-pub fn tell(said: rack::Answer, answer: &mut [u64; ANSWER_WORDS]) -> u64
-    ensures { Zeroed (answer_number said) result answer.new }
+pub fn tell(said: Result<(), Reason>, answer: &mut [u64; ANSWER_WORDS]) -> u64
+    ensures { Zeroed (refusal_in said) result answer.new }
 {
     *answer = [0; ANSWER_WORDS];
-    said.number()
+    refusal::number_of(said)
 }

@@ -22,9 +22,8 @@ fn least_kid(path: &[u64], sibs: &[u64], sizes: Sizes, leaf: Leaf, level: u64) -
     if level >= sizes.h {
         return Record::DUMMY;
     }
-    let z = sizes.z as usize;
     let place = level as usize;
-    let own = Record::read(path, place * (z + 1));
+    let own = Record::read(path, place * (sizes.z as usize + 1));
     let other = Record::read(sibs, place);
     least::kids_least(sizes.bucket_at(leaf, level + 1), own, other)
 }
@@ -35,11 +34,10 @@ fn least_true(path: &[u64], sibs: &[u64], sizes: Sizes, leaf: Leaf, level: u64) 
     ensures { (rule : Rule) → result ≡ true_at sizes.h rule (fetched_in sizes.z leaf path.now sibs.now) level }
 {
     let z = sizes.z as usize;
-    let place = (level - 1) as usize;
-    let first = place * (z + 1);
+    let first = (level as usize - 1) * (z + 1);
     let kid = least_kid(path, sibs, sizes, leaf, level);
     let given = least::least_over(path, first + 1, z, kid);
-    Record::read(path, first).same(given)
+    Record::read(path, first) == given
 }
 
 // For crates above: clause 3 for one path, level by level.
@@ -47,13 +45,10 @@ pub fn leasts_true(path: &[u64], sibs: &[u64], sizes: Sizes, leaf: Leaf) -> bool
     requires { (Room sizes leaf path.now) × (4 * sizes.h ≤ length sibs.now) }
     ensures { (rule : Rule) → result ≡ all_true sizes.h rule (fetched_in sizes.z leaf path.now sibs.now) }
 {
-    let h = sizes.h;
-    let mut level = 1;
-    while level <= h {
+    for level in 1..=sizes.h {
         if !least_true(path, sibs, sizes, leaf, level) {
             return false;
         }
-        level += 1;
     }
     true
 }

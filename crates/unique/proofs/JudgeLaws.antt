@@ -2,8 +2,10 @@
 -- Assumes nothing.
 use mathlib.Core.Path.{refl, ◌∙◌}
 use Rattle.record.specs.Standing.{rule_for}
+use Rattle.refusal.specs.Reason.{refusal_in}
+use Rattle.refusal.proofs.ReasonLaws.{one-outcome}
 use Rattle.unique.specs.One.{Determines}
-use Rattle.unique.proofs.OneLaws.{one-answer}
+use Rattle.unique.proofs.OneLaws.{one-answer, one-known}
 use Rattle.unique.proofs.ScratchLaws.{full-words}
 use Rattle.parts.proofs.Parts.rule.Kinds as rule-kinds
 use Rattle.parts.proofs.Parts.rule.Reads as rule
@@ -45,8 +47,6 @@ use Rattle.settle.proofs.way_words.Kinds as way-words-kinds
 use Rattle.settle.proofs.way_words.Reads as way-words
 use Rattle.settle.proofs.path_words.Kinds as path-words-kinds
 use Rattle.settle.proofs.path_words.Reads as path-words
-use Rattle.settle.proofs.unsettled.Kinds as unsettled-kinds
-use Rattle.settle.proofs.unsettled.Reads as unsettled
 use Rattle.settle.proofs.judged.Kinds as judged-kinds
 use Rattle.settle.proofs.judged.Reads as judged
 use Rattle.look.proofs.look_path.Kinds as look-path-kinds
@@ -74,12 +74,12 @@ one-is-waiting =
 
 pub one-why-request : Determines 1 why-request-kinds.ps why-request-kinds.r why-request.Asked why-request.Learnt
 one-why-request =
-    one-answer 1 why-request-kinds.ps why-request-kinds.r why-request.Asked why-request.Learnt _ _
+    one-known 1 why-request-kinds.ps why-request-kinds.r why-request.Asked why-request.Learnt (λ κs. refusal_in) _ _ (λ κs. one-outcome)
     (λ κs a ok x xs f p. (p, refl))
 
 pub one-why-waiting : Determines 1 why-waiting-kinds.ps why-waiting-kinds.r why-waiting.Asked why-waiting.Learnt
 one-why-waiting =
-    one-answer 1 why-waiting-kinds.ps why-waiting-kinds.r why-waiting.Asked why-waiting.Learnt _ _
+    one-known 1 why-waiting-kinds.ps why-waiting-kinds.r why-waiting.Asked why-waiting.Learnt (λ κs. refusal_in) _ _ (λ κs. one-outcome)
     (λ κs a ok x xs f p. (p, refl))
 
 pub one-job-of : Determines 0 job-of-kinds.ps job-of-kinds.r job-of.Asked job-of.Learnt
@@ -139,7 +139,7 @@ one-leasts-true =
 
 pub one-why : Determines 0 why-kinds.ps why-kinds.r why.Asked why.Learnt
 one-why =
-    one-answer 0 why-kinds.ps why-kinds.r why.Asked why.Learnt _ _
+    one-known 0 why-kinds.ps why-kinds.r why.Asked why.Learnt (λ κs. refusal_in) _ _ (λ κs. one-outcome)
     (λ κs a ok x xs f p. (p, refl))
 
 pub one-path-damaged : Determines 3 path-damaged-kinds.ps path-damaged-kinds.r path-damaged.Asked path-damaged.Learnt
@@ -162,11 +162,6 @@ one-path-words =
     one-answer 0 path-words-kinds.ps path-words-kinds.r path-words.Asked path-words.Learnt _ _
     (λ κs a ok x xs f p. (p.0, refl))
 
-pub one-unsettled : Determines 0 unsettled-kinds.ps unsettled-kinds.r unsettled.Asked unsettled.Learnt
-one-unsettled =
-    one-answer 0 unsettled-kinds.ps unsettled-kinds.r unsettled.Asked unsettled.Learnt _ _
-    (λ κs a ok x xs f p. (p, refl))
-
 pub one-judged : Determines 0 judged-kinds.ps judged-kinds.r judged.Asked judged.Learnt
 one-judged =
     one-answer 0 judged-kinds.ps judged-kinds.r judged.Asked judged.Learnt _ _
@@ -175,12 +170,12 @@ one-judged =
 pub one-look-path : Determines 3 look-path-kinds.ps look-path-kinds.r look-path.Asked look-path.Learnt
 one-look-path =
     one-answer 3 look-path-kinds.ps look-path-kinds.r look-path.Asked look-path.Learnt _ _
-    (λ κs a ok x xs f p. (λ i. record { moved = p.shown.counted i; damaged = p.verdict i }, λ i. (tt, (full-words _ _ _ (f.1.0 ∙ ok.slots) p.shown.way i, (full-words _ _ _ (f.1.1.0 ∙ ok.siblings) p.shown.siblings i, (tt, (tt, (tt, tt))))))))
+    (λ κs a ok x xs f p. (p.verdict, λ i. (tt, (full-words _ _ _ (f.1.0 ∙ ok.slots) p.way i, (full-words _ _ _ (f.1.1.0 ∙ ok.siblings) p.siblings i, (tt, (tt, (tt, tt))))))))
 
 pub one-look-pair : Determines 3 look-pair-kinds.ps look-pair-kinds.r look-pair.Asked look-pair.Learnt
 one-look-pair =
     one-answer 3 look-pair-kinds.ps look-pair-kinds.r look-pair.Asked look-pair.Learnt _ _
-    (λ κs a ok x xs f p. (λ i. record { moved = p.counted i; damaged = p.verdict i }, λ i. (tt, (full-words _ _ _ (f.1.0 ∙ ok.slots) p.way i, (full-words _ _ _ (f.1.1.0 ∙ ok.siblings) p.siblings i, (tt, (tt, (tt, (tt, tt)))))))))
+    (λ κs a ok x xs f p. (p.verdict, λ i. (tt, (full-words _ _ _ (f.1.0 ∙ ok.slots) p.way i, (full-words _ _ _ (f.1.1.0 ∙ ok.siblings) p.siblings i, (tt, (tt, (tt, (tt, tt)))))))))
 
 pub one-prepare-insertion : Determines 3 prepare-insertion-kinds.ps prepare-insertion-kinds.r prepare-insertion.Asked prepare-insertion.Learnt
 one-prepare-insertion =

@@ -3,6 +3,8 @@ use Prim.Native.Nat.{ℕ}
 use mathlib.Core.List.{List, ◌++◌}
 use mathlib.Core.Path.{◌≡◌, refl, ◌∙◌, ap}
 use lib.ListN.{length, take, drop}
+use mir.Syntax.{w64}
+use mir.Val.{Fits}
 use Rattle.frames.specs.declared.Taken.{Taken}
 use Rattle.frames.specs.Framing.{kept_of, Takes}
 use Rattle.unique.specs.One.{Determines}
@@ -60,10 +62,13 @@ one-same =
     one-answer 2 same-kinds.ps same-kinds.r same.Asked same.Learnt _ _
     (λ κs a ok x xs f p. (p, refl))
 
-pub one-numbers : Determines 2 numbers-kinds.ps numbers-kinds.r numbers.Asked numbers.Learnt
-one-numbers =
-    one-answer 2 numbers-kinds.ps numbers-kinds.r numbers.Asked numbers.Learnt _ _
-    (λ κs a ok x xs f p. (p.told, λ i. (tt, (tt, (p.these i, tt)))))
+-- of any count of numbers
+module _ (count : ℕ) (fits : Fits w64 count) where
+  pub one-numbers : Determines 2 (numbers-kinds.ps count fits) (numbers-kinds.r count fits) (numbers.Asked count fits) (numbers.Learnt count fits)
+  one-numbers =
+      one-answer 2 (numbers-kinds.ps count fits) (numbers-kinds.r count fits) (numbers.Asked count fits)
+      (numbers.Learnt count fits) _ _
+      (λ κs a ok x xs f p. (p, refl))
 
 pub one-read-line : Determines 1 read-line-kinds.ps read-line-kinds.r read-line.Asked read-line.Learnt
 one-read-line =

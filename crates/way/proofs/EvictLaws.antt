@@ -3,7 +3,7 @@
 use Prim.Native.Nat.{ℕ, zero, suc, ◌+◌, ◌*◌, ◌-◌, ◌/◌, ◌^◌, ◌≤◌, ◌<◌}
 use mathlib.Core.Bool.{Bool, true, false, cond, not, ◌&&◌, and-false}
 use mathlib.Core.List.{List, []}
-use mathlib.Core.Path.{◌≡◌, refl, sym, ap, ◌∙◌, fun_ext}
+use mathlib.Core.Path.{◌≡◌, refl, ap, ◌∙◌, fun_ext}
 use native.Mathlib.Nat.{mul-le-mul_left}
 use native.Mathlib.Numerals.{add-one}
 use native.Mathlib.Omega.{arith}
@@ -93,70 +93,26 @@ module _ (f : Record → Bool) (lo place : ℕ) (w : List ℕ) (h : 4 * place + 
       let stores = records-written _ i dummy there ∙ ap (λ ws. set ws i dummy) (records-written w place (record_at w i) h) in
       stores ∙ rw (← s, records-at w place dummy h, e, lt-ltb _ _ l, records-at w i dummy (omega arith))
 
--- ---- the slots of a level: a loop has filled the first k of z
-pub record Filling (f : Record → Bool) (lo z : ℕ) (old now : List ℕ) (k : ℕ) : Type 0 where
-  pub room : length now ≡ length old
-  pub place : k ≤ z
-  pub done : records now ≡ pulls f lo k (records old)
+-- ---- the slots of a level: one more is filled
+pub slot-next : (f : Record → Bool) (lo k : ℕ) (now after old : List ℕ) → records now ≡ pulls f lo k (records old)
+    → records after ≡ pull f lo (lo + k) (records now) → records after ≡ pulls f lo (k + 1) (records old)
+unfolding pulls
+slot-next f lo k now after old e q = rw add-one (q ∙ ap (pull f lo (lo + k)) e)
 
-module _ (f : Record → Bool) (lo z : ℕ) (old : List ℕ) where
-  pub filling-starts : Filling f lo z old old 0
-  unfolding pulls
-  filling-starts = record { room = refl; place = omega arith; done = refl }
+-- ---- the levels: those from d on are filled, and the others are left to do
+abbrev pub levels_left : (ℕ → Record → Bool) → ℕ → ℕ → ℕ → List ℕ → List ℕ → ℕ → Type 0
+levels_left fit r z h old now d = evict_up fit r z d (records now) ≡ evict_up fit r z h (records old)
 
-  module _ (now : List ℕ) (k : ℕ) (n : Filling f lo z old now k) where
-    pub filling-turns : (next : List ℕ) → k < z → length next ≡ length now → records next ≡ pull f lo (lo + k) (records now)
-        → Filling f lo z old next (k + 1)
-    unfolding pulls
-    filling-turns next l e q =
-        record {
-          room = e ∙ n.room;
-          place = omega arith;
-          done = rw add-one (q ∙ ap (pull f lo (lo + k)) n.done);
-        }
+-- a level stands behind the places that are searched
+pub level_room : (z h d : ℕ) → 0 < d → d ≤ h → z * (d - 1) + z ≤ z * h
+level_room z h d p l = omega (arith, level_before z d p, mul-le-mul_left z l)
 
-    pub filling-ends : z ≤ k → records now ≡ pulls f lo z (records old)
-    filling-ends l = let e : k ≡ z = omega (arith, n.place) in rw e at n.done
-
--- ---- the levels: a loop has filled all below level d
-pub record Evicting (fit : ℕ → Record → Bool) (r z h : ℕ) (old now : List ℕ) (lo d : ℕ) : Type 0 where
-  pub room : length now ≡ length old
-  pub level : d ≤ h
-  pub place : lo ≡ r + z * d
-  pub rest : evict_up fit r z d (records now) ≡ evict_up fit r z h (records old)
-
-level-next : (fit : ℕ → Record → Bool) (r z d : ℕ) → 0 < d → (w : List Record)
-    → evict_up fit r z d w ≡ evict_up fit r z (d - 1) (pulls (fit d) (r + z * (d - 1)) z w)
+pub level-next : (fit : ℕ → Record → Bool) (r z h d : ℕ) (old now after : List ℕ) → 0 < d
+    → records after ≡ pulls (fit d) (r + z * (d - 1)) z (records now) → levels_left fit r z h old now d
+    → levels_left fit r z h old after (d - 1)
 unfolding evict_up
-level-next fit r z zero p w = absurd (omega arith)
-level-next fit r z (suc d) p w = let e : suc d - 1 ≡ d = omega arith in rw e
-
-module _ (fit : ℕ → Record → Bool) (r z h : ℕ) (old : List ℕ) where
-  pub evicting-starts : (lo : ℕ) → lo ≡ r + z * h → Evicting fit r z h old old lo h
-  evicting-starts lo e = record { room = refl; level = omega arith; place = e; rest = refl }
-
-  module _ (now : List ℕ) (lo d : ℕ) (n : Evicting fit r z h old now lo d) where
-    -- the level stands behind the places that are searched
-    pub level-room : 0 < d → (z ≤ lo) × (lo ≤ r + z * h)
-    level-room p =
-        let up = level_before z d p in
-        let down = mul-le-mul_left z n.level in
-        (omega (arith, n.place), omega (arith, n.place))
-
-    pub evicting-turns : (next : List ℕ) → 0 < d → length next ≡ length now
-        → records next ≡ pulls (fit d) (lo - z) z (records now) → Evicting fit r z h old next (lo - z) (d - 1)
-    evicting-turns next p e q =
-        let behind : lo - z ≡ r + z * (d - 1) = omega (arith, n.place, level_before z d p) in
-        record {
-          room = e ∙ n.room;
-          level = omega (arith, n.level);
-          place = behind;
-          rest = rw (q, behind) (sym (level-next fit r z d p (records now)) ∙ n.rest);
-        }
-
-    pub evicting-ends : d ≤ 0 → records now ≡ evict_up fit r z h (records old)
-    unfolding evict_up
-    evicting-ends l = let e : d ≡ 0 = omega arith in rw e at n.rest
+level-next fit r z h zero old now after p q e = absurd (omega arith)
+level-next fit r z h (suc d) old now after p q e = let same : suc d - 1 ≡ d = omega arith in rw (q, same) e
 
 -- ---- how long a way is
 pub length_moved : (w : List Record) (from to : ℕ) → length (moved_to w from to) ≡ length w

@@ -12,28 +12,25 @@ ghost use Rattle.record.specs.Words.{records};
 ghost use Rattle.way.specs.Evict.{seek, fits, pull, pulls, evict};
 
 use path::Sizes;
-use record::{Leaf, RECORD_WORDS, Record};
+use record::{Leaf, Record};
 
 // The first of the first lo places whose record may move to this level; lo if there is none. This is the inner loop of
 // all the work: two paths hold one bucket when their leaves agree after one shift, which is the same for every record,
 // and whether a record is the dummy is asked only of those that agree.
+// Kept: lo for none, and no Option: `seek`, by which the rule of eviction is told, has that number.
 fn first_fit(w: &[u64], lo: usize, sizes: Sizes, leaf: Leaf, level: u64) -> usize
     requires { (4 * lo ≤ length w.now) × ((level ≤ sizes.h) × (sizes.h < 64)) }
     ensures { result ≡ seek (fits sizes.h leaf level) lo (records w.now) }
 {
     let below = sizes.h - level;
     let want = leaf.0 >> below;
-    let mut i = 0;
-    while i < lo {
+    for i in 0..lo {
         let found = Record::read(w, i);
-        if found.label.0 >> below == want {
-            if !found.is_dummy() {
-                return i;
-            }
+        if found.label.0 >> below == want && !found.is_dummy() {
+            return i;
         }
-        i += 1;
     }
-    i
+    lo
 }
 
 // A dummy slot takes the first record that fits from the places before lo; any other slot is left as it is.
@@ -58,24 +55,20 @@ fn fill_level(w: &mut [u64], lo: usize, sizes: Sizes, leaf: Leaf, level: u64)
     requires { (4 * (lo + sizes.z) ≤ length w.old) × ((level ≤ sizes.h) × (sizes.h < 64)) }
     ensures { records w.new ≡ pulls (fits sizes.h leaf level) lo sizes.z (records w.old) }
 {
-    let z = sizes.z as usize;
-    for k in 0..z {
+    for k in 0..sizes.z as usize {
         pull(w, lo, lo + k, sizes, leaf, level);
     }
 }
 
 // For crates above: the eviction of a whole way. From the leaf up, so that a place left at one level is filled again
-// from above when that level's turn comes.
+// from above when that level's turn comes. In its turn a level has `above` levels and the root before it.
+#[tactic(auto, using(crate::proofs::EvictLaws::level_room))]
 pub fn evict(w: &mut [u64], sizes: Sizes, leaf: Leaf)
     requires { (sizes.h < 64) × (length w.old ≡ 4 * (sizes.r + sizes.z * sizes.h)) }
     ensures { records w.new ≡ evict sizes.h sizes.z sizes.r leaf (records w.old) }
 {
-    let z = sizes.z as usize;
-    let mut lo = w.len() / RECORD_WORDS;
-    let mut level = sizes.h;
-    while level > 0 {
-        lo -= z;
-        fill_level(w, lo, sizes, leaf, level);
-        level -= 1;
+    for above in (0..sizes.h).rev() {
+        let lo = sizes.r + sizes.z * above;
+        fill_level(w, lo as usize, sizes, leaf, above + 1);
     }
 }

@@ -28,6 +28,5 @@ pub fn work_path(
 {
     way::evict(w, sizes, leaf);
     let kids = mend::mend_path(path, w, beside, sizes, leaf);
-    let r = sizes.r as usize;
-    least::least_over(w, 0, r, kids)
+    least::least_over(w, 0, sizes.r as usize, kids)
 }

@@ -12,6 +12,7 @@ use path::{ROOT_PLACES, Sizes};
 use record::{Leaf, Record, Stamp};
 
 // What a removal makes of the card's root, and whether the record was there.
+// Kept: the path is evicted in either case, so root and least are no Option that `found` would tell of.
 #[derive(Clone, Copy)]
 pub struct Removed {
     pub root: [Record; ROOT_PLACES],
@@ -35,11 +36,6 @@ pub fn remove_path(
 {
     let found = clearing::clear(w, label, stamp);
     let least = work_path(w, sibs, path, sizes, leaf);
-    let r = sizes.r as usize;
-    let next = gather::save_root(w, root, r);
-    Removed {
-        root: next,
-        least: least,
-        found: found,
-    }
+    let root = gather::save_root(w, root, sizes.r as usize);
+    Removed { root, least, found }
 }

@@ -8,20 +8,20 @@ use mathlib.Mathlib.Data.Bool.Basic.{dichotomy}
 use lib.Dec.{eqb}
 use lib.ListN.{length}
 use borrow.Author.Tests.{eq-eqb, eqb-true, eqb-false}
+use Rattle.std.specs.Prelude.{Result, Ok, Err, ⊤, Option, None, Some}
 use Rattle.path.specs.declared.sizes.Sizes.{Sizes}
 use Rattle.path.specs.Sizes.{tree_in, in_range}
 use Rattle.path.specs.Layout.{tree_words, fresh_tree}
 use Rattle.lists.specs.declared.Listed.{Listed as Counts}
 use Rattle.lists.specs.BucketList.{no_buckets, counts}
+use Rattle.refusal.specs.declared.Reason.{Reason}
+use Rattle.refusal.specs.declared.Reason.TheVariants.{BadSize, ShortRoom, BadBucket}
+use Rattle.refusal.specs.Reason.{refusal_in}
 use Rattle.refusal.specs.Refusal.{first_given, afterwards}
 use Rattle.refusal.proofs.RefusalLaws.{left-before, left-done, none, next, first_of, append-none}
-use Rattle.rack.specs.declared.Answer.{Answer as RackAnswer}
-use Rattle.rack.specs.declared.Answer.TheVariants.{Done, BadSize, ShortRoom, BadBucket}
-use Rattle.rack.specs.Answers.{answer_number, fill_refusal}
+use Rattle.rack.specs.Answers.{fill_refusal}
 use Rattle.rack.specs.Promises.{Fills}
 use Rattle.request.specs.declared.Request.{Request}
-use Rattle.request.specs.declared.Waiting.{Waiting}
-use Rattle.request.specs.declared.Waiting.TheVariants.{Nothing, For}
 use Rattle.card.specs.declared.Card.{Card}
 use Rattle.card.specs.declared.Done.{Done as CardDone}
 use Rattle.answers.specs.Answers.{number_of}
@@ -71,8 +71,8 @@ begin-told u w lent after d b =
     ∙ alone-agree u n (begun u.card w) after _ (counts_in d.answer) (counts (list_of u.card w))
     (λ e. b.places ∙ left-done n _ _ e) (λ e. ap (λ (x : CardDone). counts_in x.answer) (is e))
 
-module _ (u : World) (words ws after : List ℕ) (a : RackAnswer) (d : CardDone) (f : FetchesHeld u words a ws) (g : Finishes u.card ws after d) where
-  fetched-so : finishing u (answer_number a) ws ≡ after_finish u words
+module _ (u : World) (words ws after : List ℕ) (a : Result ⊤ Reason) (d : CardDone) (f : FetchesHeld u words a ws) (g : Finishes u.card ws after d) where
+  fetched-so : finishing u (refusal_in a) ws ≡ after_finish u words
   unfolding after_finish
   fetched-so =
       let number = f.number in
@@ -86,7 +86,7 @@ module _ (u : World) (words ws after : List ℕ) (a : RackAnswer) (d : CardDone)
       let given : finish_number u ws ≡ 0 → ⊥ = λ e. some (number ∙ e) in
       let tree = sym (left-before (finish_number u ws) (stored_from u (words_after u ws)) u.tree given) in
       let store = sym (left-before (finish_number u ws) (rack_number u (words_after u ws)) 0 given) in
-      let same : unstored u d a ≡ finishing u (answer_number a) ws =
+      let same : unstored u d a ≡ finishing u (refusal_in a) ws =
       λ i.
       record {
         world = record {
@@ -96,12 +96,12 @@ module _ (u : World) (words ws after : List ℕ) (a : RackAnswer) (d : CardDone)
           counts = afterwards (number i) (counts no_buckets) u.counts;
         };
         answer = (answer i).answer;
-        fetch = answer_number a;
+        fetch = refusal_in a;
         store = store i;
       } in
       same ∙ fetched-so
 
-  pub done-told : number_of d.answer ≡ 0 → (tree : List ℕ) (b : RackAnswer) → StoresHeld u after b tree → all_done d a b tree ≡ after_finish u words
+  pub done-told : number_of d.answer ≡ 0 → (tree : List ℕ) (b : Result ⊤ Reason) → StoresHeld u after b tree → all_done d a b tree ≡ after_finish u words
   done-told well tree b s =
       let n = finish_number u ws in
       let answer = g.call.whole in
@@ -110,12 +110,12 @@ module _ (u : World) (words ws after : List ℕ) (a : RackAnswer) (d : CardDone)
       let stores = s.number ∙ ap (rack_number u) g.words ∙ sym (left-done n (rack_number u (words_after u ws)) 0 none) in
       let lists = sym (left-done n [] u.list none) in
       let many = sym (left-done n (counts no_buckets) u.counts none) in
-      let same : all_done d a b tree ≡ finishing u (answer_number a) ws =
+      let same : all_done d a b tree ≡ finishing u (refusal_in a) ws =
       λ i.
       record {
         world = record { card = (answer i).card; tree = trees i; list = lists i; counts = many i };
         answer = (answer i).answer;
-        fetch = answer_number a;
+        fetch = refusal_in a;
         store = stores i;
       } in
       same ∙ fetched-so
@@ -145,14 +145,14 @@ answered-so k zero done e = record { whole = refl; numbered = e refl; valued = r
 answered-so k (suc n) done e = record { whole = refl; numbered = refl; valued = refl }
 
 -- the rack has an answer for each of its numbers
-copy-answer : (u : World) (words : List ℕ) → (a : RackAnswer) × (answer_number a ≡ rack_number u words)
+copy-answer : (u : World) (words : List ℕ) → (a : Result ⊤ Reason) × (refusal_in a ≡ rack_number u words)
 copy-answer u words =
-    first_of {P = λ n. (a : RackAnswer) × (answer_number a ≡ n)} (Done, refl)
-    (next 1 (BadSize, refl) (next 11 (ShortRoom, refl) (next 11 (ShortRoom, refl) (next 11 (ShortRoom, refl) (next 14 (BadBucket, refl) none)))))
+    first_of {P = λ n. (a : Result ⊤ Reason) × (refusal_in a ≡ n)} (Ok tt, refl)
+    (next 1 (Err BadSize, refl) (next 11 (Err ShortRoom, refl) (next 11 (Err ShortRoom, refl) (next 11 (Err ShortRoom, refl) (next 14 (Err BadBucket, refl) none)))))
 
-finish-done : (k : Card) (ws : List ℕ) → first_given (finish_table k ws) ≡ 0 → (w : Waiting) → k.waiting ≡ w → number_of (finished_for k w ws).answer ≡ 0
-finish-done k ws e Nothing idle = absurd (some-waits k (length ws) (append-none _ (entry-numbered k (length ws)) e).0 idle)
-finish-done k ws e (For r) busy = finished-number k r _
+finish-done : (k : Card) (ws : List ℕ) → first_given (finish_table k ws) ≡ 0 → (w : Option Request) → k.waiting ≡ w → number_of (finished_for k w ws).answer ≡ 0
+finish-done k ws e None idle = absurd (some-waits k (length ws) (append-none _ (entry-numbered k (length ws)) e).0 idle)
+finish-done k ws e (Some r) busy = finished-number k r _
 
 kept : {u : World} {c : Call} {o : Outcome} → Promised u c o → Promised u c (step u c)
 kept {u} {c} p = subst (Promised u c) (promised-step p) p
@@ -189,8 +189,8 @@ pub start-fresh : (s : Sizes) → in_range s ≡ true → (d : CardDone) → Ans
 unfolding or_refused start_table first_given
 start-fresh s ok d a = rw ok at a.whole
 
-pub fill-fresh : (h z : ℕ) (tree after : List ℕ) (answer : RackAnswer) → tree_in h z ≡ true → length tree ≡ tree_words h z
-    → Fills h z tree answer after → (answer_number answer ≡ 0) × (after ≡ fresh_tree h z)
+pub fill-fresh : (h z : ℕ) (tree after : List ℕ) (answer : Result ⊤ Reason) → tree_in h z ≡ true → length tree ≡ tree_words h z
+    → Fills h z tree answer after → (refusal_in answer ≡ 0) × (after ≡ fresh_tree h z)
 unfolding first_given
 fill-fresh h z tree after answer ok long f =
     let none : fill_refusal h z tree ≡ 0 = rw (ok, eq-eqb (length tree) (tree_words h z) long) in

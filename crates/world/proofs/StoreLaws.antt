@@ -4,17 +4,17 @@ use mathlib.Core.List.{List, ◌++◌}
 use mathlib.Core.Path.{◌≡◌, refl}
 use native.Mathlib.Omega.{arith}
 use lib.ListN.{length, drop, length-append, length-drop}
+use Rattle.std.specs.Prelude.{Option, None, Some}
 use Rattle.lists.specs.BucketList.{BucketList}
 use Rattle.mend.specs.Mended.{path_words}
 use Rattle.settle.specs.Left.{Left, words_left}
 use Rattle.refusal.specs.Refusal.{afterwards}
 use Rattle.copies.specs.Copy.{fetched_words, fetched}
 use Rattle.rack.proofs.RefusalLaws.{copy-passes, passes-copy}
-use Rattle.request.specs.declared.Waiting.{Waiting}
-use Rattle.request.specs.declared.Waiting.TheVariants.{Nothing, For}
 use Rattle.card.specs.declared.Card.{Card}
 use Rattle.card.specs.Finish.{left_by, words_for}
 use Rattle.world.specs.World.{World, held, rack_number, shown, finish_number, words_after, after_finish}
+use Rattle.request.specs.declared.Request.{Request}
 
 -- words once fetched into, and words once finished, are no fewer
 over-length : (xs ws : List ℕ) → length ws ≤ length (xs ++ drop (length xs) ws)
@@ -32,9 +32,9 @@ either_room : (n : ℕ) (done before words : List ℕ) → length words ≤ leng
 either_room zero done before words l m = l
 either_room (suc n) done before words l m = m
 
-waiting-room : (k : Card) (w : Waiting) (ws : List ℕ) → length ws ≤ length (words_for k w ws)
-waiting-room k Nothing ws = omega arith
-waiting-room k (For r) ws = left-room (left_by k r ws) ws
+waiting-room : (k : Card) (w : Option Request) (ws : List ℕ) → length ws ≤ length (words_for k w ws)
+waiting-room k None ws = omega arith
+waiting-room k (Some r) ws = left-room (left_by k r ws) ws
 
 none-stored : (n number : ℕ) → number ≡ 0 → afterwards n number 0 ≡ 0
 none-stored zero number z = z

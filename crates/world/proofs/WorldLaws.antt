@@ -3,11 +3,11 @@ use Prim.Native.Nat.{ℕ, zero, suc}
 use mathlib.Core.List.{List}
 use mathlib.Core.Path.{◌≡◌, refl}
 use lib.ListN.{length}
+use Rattle.std.specs.Prelude.{Some}
 use Rattle.lists.specs.declared.Listed.{Listed as Counts}
 use Rattle.lists.specs.BucketList.{counts, laid}
 use Rattle.refusal.specs.Refusal.{first_given}
 use Rattle.request.specs.declared.Request.{Request}
-use Rattle.request.specs.declared.Waiting.TheVariants.{For}
 use Rattle.answers.specs.declared.Answer.{Answer}
 use Rattle.answers.specs.declared.Answer.TheVariants.{Refused}
 use Rattle.card.specs.declared.Done.{Done}
@@ -41,7 +41,7 @@ module _ (u : World) (r : Request) (places : List ℕ) where
   abbrev pub listing : World
   listing =
       record {
-        card = with_waiting u.card (For r);
+        card = with_waiting u.card (Some r);
         tree = u.tree;
         list = laid (list_of u.card r) places;
         counts = counts (list_of u.card r);

@@ -6,19 +6,19 @@ ghost use Rattle.std.specs.Prelude.{◌≡◌, length};
 ghost use Rattle.writing.specs.Stored.{StoreRoom, Stored};
 
 use path::Sizes;
-use record::{RECORD_WORDS, copy_words};
+use record::RECORD_WORDS;
 
 // For crates above: the bucket writer. A part of the words, one bucket long, takes the words of another just as long.
 pub fn write_part(part: &mut [u64], from: &[u64])
     requires { length part.old ≡ length from.now }
     ensures { part.new ≡ from.now }
 {
-    let n = part.len();
-    copy_words(part, 0, from, 0, n);
+    part.copy_from_slice(from);
 }
 
 // For crates above: the prepared buckets of a path are written, each into its part of the fetched words, and the words
 // moved are counted with each: it was fetched and is stored.
+// Kept: a bucket's part is what is lent to be written, so one copy of the whole path is no plainer form of it.
 pub fn write_path(words: &mut [u64], from: &[u64], sizes: Sizes) -> u64
     requires { StoreRoom sizes words.old from.now }
     ensures { Stored sizes from.now words.old words.new result }

@@ -1,7 +1,7 @@
 -- `afresh::size` meets its contract: refused, too large, or afresh. Assumes nothing.
 use mathlib.Core.Path.{refl, sym, ap}
 use lib.Seq.{length-take-le}
-use Rattle.steps.proofs.SizeLaws.{size-refused, over-most, over-lent, afresh}
+use Rattle.steps.proofs.SizeLaws.{size-refused, over, afresh}
 use mathlib.Core.Bool.{not}
 use Rattle.afresh.proofs.size.Goals as goal
 
@@ -11,11 +11,7 @@ returns-then-not-in_range c =
 
 pub returns-then-words-gt-TREE_MOST : goal.returns-then-words-gt-TREE_MOST
 returns-then-words-gt-TREE_MOST c =
-    over-most c.args.desk c.args.h c.args.z c.args.r c.args.t c.args.tree.now _ c.start-done.ensures _ c.in_range.ensures (ap not c.if-not-in_range.false) _ c.tree_words-words.ensures c.if-words-gt-TREE_MOST.true _ c.unread_by.ensures
-
-pub returns-then-words-tree : goal.returns-then-words-tree
-returns-then-words-tree c =
-    over-lent c.args.desk c.args.h c.args.z c.args.r c.args.t c.args.tree.now _ c.start-done.ensures _ c.in_range.ensures (ap not c.if-not-in_range.false) _ c.tree_words-words.ensures c.if-words-tree.true _ c.unread_by-then-words-tree.ensures
+    over c.args.desk c.args.h c.args.z c.args.r c.args.t c.args.tree.now _ c.start-done.ensures _ c.in_range.ensures (ap not c.if-not-in_range.false) _ c.tree_words-words.ensures c.then-words-gt-TREE_MOST.either _ c.unread_by.ensures
 
 pub slice_bounds-fill-end-2 : goal.slice_bounds-fill-end-2
 slice_bounds-fill-end-2 c = sym (length-take-le _ _ c.if-words-tree.false)

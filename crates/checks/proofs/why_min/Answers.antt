@@ -1,22 +1,23 @@
 use mathlib.Core.Path.{sym, ◌∙◌}
+use Rattle.std.proofs.lemmas.Result.{err_from_is_err_and}
 use borrow.Author.Tests.{eq-eqb, ne_eqb}
 use Rattle.record.specs.Words.{records}
+use Rattle.refusal.proofs.ReasonLaws.{some-number}
 use Rattle.checks.proofs.CheckLaws.{min-busy, min-empty}
 use Rattle.checks.proofs.why_min.Goals as goal
 
-pub returns-then-number-ne0 : goal.returns-then-number-ne0
-returns-then-number-ne0 c =
+pub returns-in_err-why_busy : goal.returns-in_err-why_busy
+returns-in_err-why_busy c =
     let s = c.args in
-    min-busy _ s.parts (records s.root.now) s.waiting _ c.why_busy-number.ensures c.if-number-ne0.true
+    let p = err_from_is_err_and c.from_residual.result c.from_residual.ensures.1 in
+    rw (p.1, p.2) (min-busy _ s.card.now.parts (records s.card.now.root) s.card.now.waiting (some-number c.in_err-why_busy.field-0.0) c.in_err-why_busy.ensures)
 
-pub returns-then-parts-eq0 : goal.returns-then-parts-eq0
-returns-then-parts-eq0 c =
+pub returns-then-card-eq0 : goal.returns-then-card-eq0
+returns-then-card-eq0 c =
     let s = c.args in
-    let e = min-empty _ s.parts (records s.root.now) s.waiting _ c.why_busy-number.ensures c.if-number-ne0.false in
-    sym (e ∙ rw (eq-eqb s.parts.c 0 c.if-parts-eq0.true))
+    sym (min-empty _ s.card.now.parts (records s.card.now.root) s.card.now.waiting c.in_ok-why_busy.ensures ∙ rw (eq-eqb s.card.now.parts.c 0 c.if-card-eq0.true))
 
 pub returns : goal.returns
 returns c =
     let s = c.args in
-    let e = min-empty _ s.parts (records s.root.now) s.waiting _ c.why_busy-number.ensures c.if-number-ne0.false in
-    sym (e ∙ rw (ne_eqb s.parts.c 0 c.if-parts-eq0.false))
+    sym (min-empty _ s.card.now.parts (records s.card.now.root) s.card.now.waiting c.in_ok-why_busy.ensures ∙ rw (ne_eqb s.card.now.parts.c 0 c.if-card-eq0.false))

@@ -1,5 +1,4 @@
 -- `find` meets its contract: what is left of the search begins at place i. Assumes nothing.
-use Prim.Native.Nat.{◌-◌, ◌≤◌}
 use mathlib.Core.Path.{◌≡◌}
 use Rattle.record.specs.Words.{records}
 use Rattle.way.specs.Evict.{seek}
@@ -8,7 +7,4 @@ use Rattle.clearing.specs.Removal.{named}
 use Rattle.clearing.proofs.find.Given as goal
 
 abbrev pub invariant-loop-i : goal.invariant-loop-i
-invariant-loop-i l = (l.i ≤ l.n) × (seek (named l.label l.stamp) l.n (records l.w) ≡ seek_from (named l.label l.stamp) l.n l.w l.i)
-
-abbrev pub decreases-loop-i : goal.decreases-loop-i
-decreases-loop-i l = l.n - l.i
+invariant-loop-i l = seek (named l.label l.stamp) l.n (records l.w) ≡ seek_from (named l.label l.stamp) l.n l.w l.i

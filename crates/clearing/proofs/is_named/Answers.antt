@@ -1,19 +1,17 @@
 -- `is_named` meets its contract: the tests are those of `named`, in another order. Assumes nothing.
-use mathlib.Core.Bool.{not, and-false, and-true}
-use mathlib.Core.Path.{ap}
-use borrow.Author.Tests.{eq-eqb, ne_eqb}
+use mathlib.Core.Bool.{not, and-true}
+use mathlib.Core.Path.{◌∙◌, sym, ap}
 use Rattle.clearing.specs.Removal.{named}
 use Rattle.clearing.proofs.is_named.Goals as goal
+use Rattle.clearing.proofs.is_named.Goals.{then-eq, else-eq}
 
-pub returns-then-record-stamp : goal.returns-then-record-stamp
+pub returns-then-eq-2 : goal.returns-then-eq-2
 unfolding named
-returns-then-record-stamp c = rw (ne_eqb _ _ c.if-record-stamp.true, and-false, and-false)
-
-pub returns-then-record-label : goal.returns-then-record-label
-unfolding named
-returns-then-record-label c = rw (ne_eqb _ _ c.if-record-label.true, and-false)
-
-pub returns : goal.returns
-unfolding named
-returns c =
-    rw (eq-eqb _ _ c.if-record-stamp.false, eq-eqb _ _ c.if-record-label.false, and-true) (ap not c.is_dummy.ensures)
+returns-then-eq-2 c =
+    elim c.if-eq.branch [
+      | then-eq w ↦
+          let stamps = sym c.eq.ensures ∙ w.if-eq.true in
+          let labels = sym w.eq-then-eq.ensures ∙ sym w.value-is ∙ c.if-eq-2.true in
+          rw (labels, stamps, and-true) (ap not c.is_dummy.ensures)
+      | else-eq w ↦ cc
+    ]

@@ -1,5 +1,4 @@
 -- `decimal::print` meets its contract. The loop: `Spelling`. Assumes nothing.
-use native.Mathlib.Omega.{arith}
 use Rattle.decimal.proofs.PrintLaws.{spelling-starts, spelling-turns, spelling-ends, number-no-room, number-in-room}
 use Rattle.decimal.proofs.print.Goals as goal
 
@@ -9,21 +8,9 @@ returns-then-out-k c = number-no-room _ _ _ c.width-k.ensures c.if-out-k.true
 pub loop-i-init : goal.loop-i-init
 loop-i-init c = spelling-starts _ _ _ c.if-out-k.false
 
-pub overflow_cast-out : goal.overflow_cast-out
-overflow_cast-out c = omega arith
-
-pub overflow_add-out : goal.overflow_add-out
-overflow_add-out c = omega arith
-
-pub bounds-out-i : goal.bounds-out-i
-bounds-out-i c = omega (arith, c.loop-i.invariant)
-
 pub loop-i-preserved : goal.loop-i-preserved
 loop-i-preserved c =
     spelling-turns _ _ _ c.if-out-k.false _ _ _ c.loop-i.invariant c.loop-i-test.true
-
-pub shape_of-out : goal.shape_of-out
-shape_of-out c = c.loop-i.invariant.room
 
 pub returns : goal.returns
 returns c =

@@ -4,6 +4,3 @@ use Rattle.decimal.proofs.print.Given as goal
 
 abbrev pub invariant-loop-i : goal.invariant-loop-i
 invariant-loop-i l = Spelling l.n l.k l.initial.out l.rest l.i l.out
-
-abbrev pub decreases-loop-i : goal.decreases-loop-i
-decreases-loop-i l = l.i

@@ -1,50 +1,42 @@
 -- `decimal::read` meets its contract. The loop: `Scanning`. Assumes nothing.
+use borrow.Author.Rules.{rules}
 use native.Mathlib.Omega.{arith}
+use borrow.Author.Tests.{eqb-false}
 use mathlib.Core.Path.{sym, ◌∙◌}
-use Prim.Native.Nat.{◌-◌}
-use Rattle.decimal.proofs.FieldLaws.{scanning-starts, scanning-turns, scanning-ends, refused-empty, refused-zero, refused-low, refused-high, refused_over}
+use Rattle.decimal.proofs.FieldLaws.{scanning-starts, scanning-turns, scanning-ends, refused-empty, refused-zero, refused-at, refused_over}
 use Rattle.decimal.proofs.read.Goals as goal
 
-pub returns-then-field-eq0 : goal.returns-then-field-eq0
-returns-then-field-eq0 c = refused-empty c.args.field.now (omega arith)
+pub returns-then-is_empty : goal.returns-then-is_empty
+returns-then-is_empty c = refused-empty c.args.field.now (search rules)
 
 pub returns-then-leading_zero : goal.returns-then-leading_zero
-returns-then-leading_zero c = refused-zero _ (sym c.leading_zero.ensures ∙ c.if-leading_zero.true)
+returns-then-leading_zero c = refused-zero _ (search rules)
 
-pub loop-i-init : goal.loop-i-init
-loop-i-init c = scanning-starts _
+pub loop-b-init : goal.loop-b-init
+loop-b-init c = scanning-starts _
 
-pub returns-then-b-lt-FIRST_DIGIT : goal.returns-then-b-lt-FIRST_DIGIT
-returns-then-b-lt-FIRST_DIGIT c =
-    refused-low _ _ _ c.loop-i.invariant c.loop-i-test.true (omega (arith, c.wide-b.ensures))
+pub returns-then-not-is_ascii_digit : goal.returns-then-not-is_ascii_digit
+returns-then-not-is_ascii_digit c =
+    refused-at _ _ _ c.loop-b.invariant c.loop-b-test.true (sym c.is_ascii_digit.ensures.value ∙ c.if-not-is_ascii_digit.true)
 
-pub returns-then-b-gt-LAST_DIGIT : goal.returns-then-b-gt-LAST_DIGIT
-returns-then-b-gt-LAST_DIGIT c =
-    refused-high _ _ _ c.loop-i.invariant c.loop-i-test.true (omega (arith, c.wide-b.ensures))
+pub returns-in_err-checked_mul : goal.returns-in_err-checked_mul
+returns-in_err-checked_mul c =
+    let no = rw c.in_err-checked_mul.was at c.checked_mul.ensures in
+    c.from_residual.ensures ∙ refused_over _ _ _ c.loop-b.invariant c.loop-b-test.true (omega arith)
 
-pub overflow_sub-digit-in-loop-i : goal.overflow_sub-digit-in-loop-i
-overflow_sub-digit-in-loop-i c = omega arith
+pub returns-in_err-n : goal.returns-in_err-n
+returns-in_err-n c =
+    let is = rw c.in_ok-checked_mul.was at c.checked_mul.ensures in
+    let no = rw c.in_err-n.was at c.checked_add.ensures in
+    c.from_residual-in_err-n.ensures ∙ refused_over _ _ _ c.loop-b.invariant c.loop-b-test.true (omega arith)
 
-pub returns-then-n-digit : goal.returns-then-n-digit
-returns-then-n-digit c =
-    refused_over _ _ _ c.loop-i.invariant c.loop-i-test.true (omega (arith, c.wide-b.ensures))
-
-pub overflow_mul-n : goal.overflow_mul-n
-overflow_mul-n c = omega arith
-
-pub overflow_add-n : goal.overflow_add-n
-overflow_add-n c = omega arith
-
-pub overflow_add-i : goal.overflow_add-i
-overflow_add-i c = omega arith
-
-pub loop-i-smaller : goal.loop-i-smaller
-loop-i-smaller c = omega arith
-
-pub loop-i-preserved : goal.loop-i-preserved
-loop-i-preserved c =
-    rw c.wide-b.ensures (scanning-turns _ _ _ c.loop-i.invariant c.loop-i-test.true (omega arith) (omega arith) (omega arith))
+pub loop-b-preserved : goal.loop-b-preserved
+loop-b-preserved c =
+    let is = sym c.is_ascii_digit.ensures.value ∙ c.if-not-is_ascii_digit.false in
+    let ten = rw c.in_ok-checked_mul.was at c.checked_mul.ensures in
+    let next = rw c.in_ok-n.was at c.checked_add.ensures in
+    scanning-turns _ _ _ c.loop-b.invariant c.loop-b-test.true is _ (omega arith) (omega arith)
 
 pub returns : goal.returns
 returns c =
-    scanning-ends _ _ _ c.loop-i.invariant c.loop-i-test.false (λ e. omega arith) (sym c.leading_zero.ensures ∙ c.if-leading_zero.false)
+    scanning-ends _ _ _ c.loop-b.invariant c.loop-b-test.false (eqb-false _ _ (sym c.is_empty.ensures ∙ c.if-is_empty.false)) (search rules)

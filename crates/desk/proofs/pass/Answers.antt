@@ -12,15 +12,14 @@ slice_bounds-out-end g c = written-within _ _ _ _ _ _ _ c.feed-fed.ensures
 pub slice_bounds-write_all-end : goal.slice_bounds-write_all-end
 slice_bounds-write_all-end g c = sym (length-take-le _ _ (written-within _ _ _ _ _ _ _ c.feed-fed.ensures))
 
-pub overflow_add-from : goal.overflow_add-from
-overflow_add-from g c =
-    omega (arith, simp (length-take, length-drop) at (feeds-within _ _ _ _ _ _ _ c.feed-fed.ensures))
+pub slice_bounds-rest-start : goal.slice_bounds-rest-start
+slice_bounds-rest-start g c = feeds-within _ _ _ _ _ _ _ c.feed-fed.ensures
 
-pub loop-from-smaller : goal.loop-from-smaller
-loop-from-smaller g c =
-    let some = feeds-some _ _ _ _ _ _ _ c.feed-fed.ensures (omega arith) (simp (length-take, length-drop) (omega arith)) in
-    omega (arith, simp (length-take, length-drop) at (feeds-within _ _ _ _ _ _ _ c.feed-fed.ensures))
+pub slice_bounds-rest-count : goal.slice_bounds-rest-count
+slice_bounds-rest-count g c = feeds-within _ _ _ _ _ _ _ c.feed-fed.ensures
 
-pub loop-from-preserved : goal.loop-from-preserved
-loop-from-preserved g c =
-    omega (arith, simp (length-take, length-drop) at (feeds-within _ _ _ _ _ _ _ c.feed-fed.ensures))
+pub loop-rest-smaller : goal.loop-rest-smaller
+loop-rest-smaller g c =
+    let within = feeds-within _ _ _ _ _ _ _ c.feed-fed.ensures in
+    let some = feeds-some _ _ _ _ _ _ _ c.feed-fed.ensures (omega arith) (omega arith) in
+    simp (length-take, length-drop) (omega (arith, within, some))

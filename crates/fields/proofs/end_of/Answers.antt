@@ -1,21 +1,13 @@
--- `fields::end_of` meets its contract. The loop: what is left of the field decides where it ends. Assumes nothing.
-use native.Mathlib.Omega.{arith}
-use Prim.Native.Nat.{◌-◌}
-use mathlib.Core.Path.{refl}
-use Rattle.fields.proofs.PiecesLaws.{before-stops, before-goes-on, before-ends}
+-- `fields::end_of` meets its contract. Assumes nothing.
+use Rattle.std.proofs.Common.{◌≡◌, ◌+◌, ◌==◌, ap, refl, ◌∙◌, rules, tests, position}
+use Rattle.std.proofs.lemmas.Iterator.{YieldsList-from_slice}
+use Rattle.std.proofs.lemmas.Iterator.Search.{position_from_yields_List}
+use Rattle.fields.proofs.PiecesLaws.{rest-of, before-found}
 use Rattle.fields.proofs.end_of.Goals as goal
-
-pub loop-i-init : goal.loop-i-init
-loop-i-init c = refl
-
-pub returns-then-bytes-i : goal.returns-then-bytes-i
-returns-then-bytes-i c =
-    omega (arith, c.loop-i.invariant, before-stops c.args.at c.args.bytes.now c.loop-i.i c.loop-i-test.true c.if-bytes-i.true)
-
-pub loop-i-preserved : goal.loop-i-preserved
-loop-i-preserved c =
-    omega (arith, c.loop-i.invariant, before-goes-on c.args.at c.args.bytes.now c.loop-i.i c.loop-i-test.true c.if-bytes-i.false)
 
 pub returns : goal.returns
 returns c =
-    omega (arith, c.loop-i.invariant, before-ends c.args.at c.args.bytes.now c.loop-i.i c.loop-i-test.false)
+    let rest = rest-of c.args.bytes.now c.args.from _ _ _ c.get.ensures.lookup c.unwrap_or-rest.ensures refl in
+    let found : c.position.result ≡ position (λ b. b == c.args.at) c.unwrap_or-rest.result.now =
+    position_from_yields_List (λ b. b == c.args.at) _ _ c.position.result c.position.ensures.ran (YieldsList-from_slice _ c.iter.ensures.rest) (λ x b q k. search (rules, tests)) in
+    ap (λ n. c.args.from + n) (c.unwrap_or.ensures ∙ rw (found, rest) (before-found c.args.at _))

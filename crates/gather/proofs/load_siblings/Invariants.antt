@@ -1,10 +1,10 @@
--- `load_siblings` meets its contract: the loop has laid the siblings before its place. Assumes nothing.
-use Prim.Native.Nat.{◌-◌, ◌≤◌}
-use Rattle.gather.proofs.Loading.{Siblings}
+-- `load_siblings` meets its contract: the loop has laid and counted so many siblings. Assumes nothing.
+use Prim.Native.Nat.{◌*◌, ◌-◌}
+use mathlib.Core.Path.{◌≡◌}
+use Rattle.gather.specs.Shown.{siblings_shown}
+use Rattle.gather.proofs.Loading.{Laying}
 use Rattle.gather.proofs.load_siblings.Given as goal
 
-abbrev pub invariant-loop-place : goal.invariant-loop-place
-invariant-loop-place l = (l.place ≤ l.h) × Siblings l.z l.words l.whole l.skip (l.level - 1) l.initial.sibs l.sibs l.from l.place l.moved
-
-abbrev pub decreases-loop-place : goal.decreases-loop-place
-decreases-loop-place l = l.h - l.place
+abbrev pub invariant-loop-i : goal.invariant-loop-i
+invariant-loop-i l =
+    (l.moved ≡ l.i * 4) × Laying l.initial.sibs (l.level - 1) (siblings_shown l.fn.sizes.z l.words l.whole l.skip l.i) l.sibs

@@ -1,10 +1,7 @@
 -- `load_slots` meets its contract: the loop has laid the slots of so many buckets. Assumes nothing.
-use Prim.Native.Nat.{◌-◌, ◌≤◌}
-use Rattle.gather.proofs.Loading.{Slots}
+use Rattle.gather.specs.Shown.{slots_shown}
+use Rattle.gather.proofs.Loading.{Laying}
 use Rattle.gather.proofs.load_slots.Given as goal
 
-abbrev pub invariant-loop : goal.invariant-loop
-invariant-loop l = (l.counter ≤ l.count) × Slots l.z l.words l.at l.from l.initial.w l.w l.to l.first l.counter
-
-abbrev pub decreases-loop : goal.decreases-loop
-decreases-loop l = l.count - l.counter
+abbrev pub invariant-loop-i : goal.invariant-loop-i
+invariant-loop-i l = Laying l.initial.w l.at (slots_shown l.z l.words l.from l.i) l.w

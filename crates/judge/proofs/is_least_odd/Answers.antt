@@ -14,7 +14,7 @@ unfolding odd_least
 returns-then-c-eq0 c =
     rw (sym c.is_dummy.ensures ∙ c.if-is_dummy.false, eq-eqb _ _ c.if-c-eq0.true)
 
-pub returns : goal.returns
+pub returns-else-c-eq0 : goal.returns-else-c-eq0
 unfolding odd_least may_stand
-returns c =
+returns-else-c-eq0 c =
     rw (sym c.is_dummy.ensures ∙ c.if-is_dummy.false, ne_eqb _ _ c.if-c-eq0.false) (ap not c.is_proper.ensures)

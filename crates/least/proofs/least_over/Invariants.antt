@@ -10,6 +10,3 @@ use Rattle.least.proofs.least_over.Given as goal
 abbrev pub invariant-loop-k : goal.invariant-loop-k
 invariant-loop-k l =
     (l.k ≤ l.n) × ((rule : Rule) → l.least ≡ over rule (drop l.k (take l.n (drop l.from (records l.w)))) l.initial.least)
-
-abbrev pub decreases-loop-k : goal.decreases-loop-k
-decreases-loop-k l = l.k

@@ -1,24 +1,11 @@
 -- `rack::fetch` meets its contract: where nothing is refused, the counts cover buckets of the tree. Assumes nothing.
-use lib.ListN.{length}
-use Rattle.rack.proofs.RefusalLaws.{CopyPasses, copy-passes, passes-copy}
+use mathlib.Core.Path.{sym}
+use Rattle.rack.proofs.RefusalLaws.{copy-passes}
 use Rattle.rack.proofs.StandLaws.{copy_covered}
-use Rattle.rack.proofs.AnswerLaws.{refused, passed, done}
-use mathlib.Core.Path.{ap}
-use mathlib.Core.Bool.{not}
 use Rattle.rack.proofs.fetch.Goals as goal
 
-pub returns-then-not-is_done : goal.returns-then-not-is_done
-returns-then-not-is_done c =
-    refused _ _ _ _ _ c.of_copy-answer.ensures c.is_done.ensures (ap not c.if-not-is_done.true)
+pub fetch_listed-requires-clause-covered : goal.fetch_listed-requires-clause-covered
+fetch_listed-requires-clause-covered c = copy_covered (copy-passes _ _ _ _ _ _ _ (sym c.in_ok-of_copy.ensures))
 
-pub fetch_listed-requires : goal.fetch_listed-requires
-fetch_listed-requires c =
-    let passes : let s = c.args in CopyPasses s.h s.z (length s.tree.now) s.list.now s.whole s.least (length s.words.now) = copy-passes _ _ _ _ _ _ _ (passed _ c.of_copy-answer.result _ c.of_copy-answer.ensures c.is_done.ensures (ap not c.if-not-is_done.false)) in
-    let p = passes in
-    record { covered = copy_covered p; least_in_bounds = p.room }
-
-pub returns : goal.returns
-returns c =
-    let passes : let s = c.args in CopyPasses s.h s.z (length s.tree.now) s.list.now s.whole s.least (length s.words.now) = copy-passes _ _ _ _ _ _ _ (passed _ c.of_copy-answer.result _ c.of_copy-answer.ensures c.is_done.ensures (ap not c.if-not-is_done.false)) in
-    let p = passes in
-    done _ _ _ _ _ c.of_copy-answer.ensures (passes-copy _ _ _ _ _ _ _ p) c.fetch_listed.ensures
+pub fetch_listed-requires-clause-least_in_bounds : goal.fetch_listed-requires-clause-least_in_bounds
+fetch_listed-requires-clause-least_in_bounds c = (copy-passes _ _ _ _ _ _ _ (sym c.in_ok-of_copy.ensures)).room

@@ -1,24 +1,19 @@
 use native.Mathlib.Omega.{arith}
-use Prim.Native.Nat.{◌-◌}
-use mathlib.Core.Bool.{true}
-use mathlib.Core.Path.{sym, ap, ◌∙◌}
+use borrow.Author.Rules.{rules}
+use borrow.Author.Tests.{tests}
+use Prim.Native.Nat.{◌/◌}
+use mathlib.Core.Path.{◌∙◌}
+use lib.ListN.{length}
+use Rattle.std.proofs.lemmas.Iterator.{YieldsList-from_range}
+use Rattle.std.proofs.lemmas.Iterator.Search.{all_from_yields_List}
 use Rattle.record.specs.Standing.{is_dummy}
-use Rattle.record.proofs.PlacesLaws.{pass-starts, pass-turns, pass-fails, pass-ends}
+use Rattle.record.specs.Words.{record_at}
+use Rattle.root.proofs.Slots.{places-all}
 use Rattle.root.proofs.all_dummies.Goals as goal
-
-pub loop-i-init : goal.loop-i-init
-loop-i-init c = (omega arith, pass-starts is_dummy)
-
-pub returns-then-not-is_dummy : goal.returns-then-not-is_dummy
-returns-then-not-is_dummy c =
-    let t = sym (ap is_dummy c.read.ensures) ∙ sym c.is_dummy.ensures ∙ c.if-not-is_dummy.true in
-    sym (pass-fails is_dummy _ c.loop-i.i (omega arith) t)
-
-pub loop-i-preserved : goal.loop-i-preserved
-loop-i-preserved c =
-    let t = sym (ap is_dummy c.read.ensures) ∙ sym c.is_dummy.ensures ∙ c.if-not-is_dummy.false in
-    (omega arith, pass-turns is_dummy _ c.loop-i.i (omega arith) c.loop-i.invariant.1 t)
 
 pub returns : goal.returns
 returns c =
-    sym (pass-ends is_dummy _ c.loop-i.i (omega arith) c.loop-i.invariant.1)
+    let ws = c.args.places.now in
+    let n = length ws / 4 in
+    all_from_yields_List (λ k. is_dummy (record_at ws k)) _ _ _ c.all.ensures.ran (YieldsList-from_range 0 n n (search rules) (omega arith)) (λ x b q k. search (rules, tests))
+    ∙ places-all is_dummy ws 0 n (omega arith)

@@ -1,10 +1,10 @@
 use native.Mathlib.Omega.{arith}
-use Prim.Native.Nat.{◌-◌}
 use mathlib.Core.Path.{sym, ap, ◌∙◌}
 use Rattle.record.specs.Standing.{is_dummy, is_proper}
 use Rattle.record.specs.Order.{before}
 use Rattle.root.proofs.Slots.{fine-starts, fine-dummy, fine-record, strange-place, earlier-place, fine-ends}
 use Rattle.root.proofs.slots_fine.Goals as goal
+use Rattle.root.proofs.slots_fine.Goals.{then-not-is_proper-via-then-not-is_proper, then-not-is_proper-via-else-not-is_proper+then-not-no_later}
 use Rattle.root.proofs.slots_fine.Goals.{then-not-is_dummy+else-not-is_proper+else-not-no_later, else-not-is_dummy}
 
 pub loop-i-init : goal.loop-i-init
@@ -14,15 +14,13 @@ pub returns-then-not-is_proper : goal.returns-then-not-is_proper
 returns-then-not-is_proper c =
     let s = c.args in
     let e = ap is_dummy (sym c.read-x.ensures) ∙ sym c.is_dummy.ensures ∙ c.if-not-is_dummy.true in
-    let f = ap (is_proper s.rule) (sym c.read-x.ensures) ∙ sym c.is_proper.ensures ∙ c.if-not-is_proper.true in
-    sym (strange-place s.slots.now s.rule s.least c.loop-i.i c.loop-i.count (omega arith) s.live e f)
-
-pub returns-then-not-no_later : goal.returns-then-not-no_later
-returns-then-not-no_later c =
-    let s = c.args in
-    let e = ap is_dummy (sym c.read-x.ensures) ∙ sym c.is_dummy.ensures ∙ c.if-not-is_dummy.true in
-    let f = ap (before s.rule s.least) (sym c.read-x.ensures) ∙ sym (c.no_later.ensures s.rule) ∙ c.if-not-no_later.true in
-    sym (earlier-place s.slots.now s.rule s.least c.loop-i.i c.loop-i.count (omega arith) s.live e f)
+    let f = ap (is_proper s.rule) (sym c.read-x.ensures) ∙ sym c.is_proper.ensures in
+    sym (elim c.then-not-is_proper.branch [
+      | then-not-is_proper-via-then-not-is_proper w ↦ strange-place s.slots.now s.rule s.least c.loop-i.i c.loop-i.count (omega arith) s.live e (f ∙ w.if-not-is_proper.true)
+      | then-not-is_proper-via-else-not-is_proper+then-not-no_later w ↦
+          let g = ap (before s.rule s.least) (sym c.read-x.ensures) ∙ sym (w.no_later.ensures s.rule) ∙ w.if-not-no_later.true in
+          earlier-place s.slots.now s.rule s.least c.loop-i.i c.loop-i.count (omega arith) s.live e g
+    ])
 
 pub overflow_add-count : goal.overflow_add-count
 overflow_add-count c =

@@ -13,7 +13,7 @@ returns-then-comes_out_bad c =
     let s = c.args in
     let u : s.parts.t + 1 ≡ suc s.parts.t = omega arith in
     let b : bad_parts (parts_after s.parts s.next.c s.next.least) s.next.root ≡ true = sym (rw u at c.comes_out_bad.ensures) ∙ c.if-comes_out_bad.true in
-    c.unsettled.ensures ∙ rw b
+    rw b
 
 pub returns : goal.returns
 unfolding judged

@@ -1,11 +1,6 @@
 -- `show_pair`: the first way, each path's siblings, and the slots of both paths. Assumes nothing.
-use native.Mathlib.Omega.{arith}
 use Rattle.shown.proofs.ShownLaws.{pair-shown}
 use Rattle.shown.proofs.show_pair.Goals as goal
-
-pub overflow_add-result : goal.overflow_add-result
-overflow_add-result c =
-    omega (arith, c.show_siblings-moved.ensures.counted, c.show_siblings-more.ensures.counted, c.requires)
 
 pub returns : goal.returns
 returns c =

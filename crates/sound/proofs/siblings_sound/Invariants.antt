@@ -1,5 +1,4 @@
 -- `siblings_sound` meets its contract: the levels before `level` have passed. Assumes nothing.
-use Prim.Native.Nat.{suc, ◌-◌}
 use Rattle.path.specs.Path.{path_bucket, sibling_of}
 use Rattle.sound.specs.Sound.{sound}
 use Rattle.sound.specs.Fetched.{beside_in}
@@ -9,6 +8,3 @@ use Rattle.sound.proofs.siblings_sound.Given as goal
 abbrev pub invariant-loop-level : goal.invariant-loop-level
 invariant-loop-level l =
     Passed (λ d. sound l.sizes.h l.rule d (sibling_of (path_bucket l.sizes.h l.leaf d)) (beside_in l.sibs d)) l.sizes.h l.from l.level
-
-abbrev pub decreases-loop-level : goal.decreases-loop-level
-decreases-loop-level l = suc l.sizes.h - l.level

@@ -1,5 +1,4 @@
 -- `stamp_twice`: no record looked at so far has a stamp that stands again behind it. Assumes nothing.
-use Prim.Native.Nat.{◌-◌}
 use mathlib.Core.Path.{◌≡◌}
 use lib.ListN.{drop}
 use Rattle.record.specs.Many.{stamp_twice}
@@ -8,6 +7,3 @@ use Rattle.stamps.proofs.stamp_twice.Given as goal
 
 abbrev pub invariant-loop-i : goal.invariant-loop-i
 invariant-loop-i l = stamp_twice (records l.w) ≡ stamp_twice (drop l.i (records l.w))
-
-abbrev pub decreases-loop-i : goal.decreases-loop-i
-decreases-loop-i l = l.n - l.i

@@ -1,20 +1,10 @@
 -- `least_kid` meets its contract. Assumes nothing.
 use native.Mathlib.Omega.{arith}
-use Rattle.truth.proofs.LevelLaws.{kids-none, kid-ends, kids-both}
+use Rattle.truth.proofs.LevelLaws.{kids-none, kids-both}
 use Rattle.truth.proofs.least_kid.Goals as goal
 
 pub returns-then-level-sizes : goal.returns-then-level-sizes
-returns-then-level-sizes c = λ rule. kids-none _ _ _ _ _ _ rule c.if-level-sizes.true
-
-pub overflow_mul-place : goal.overflow_mul-place
-overflow_mul-place c =
-    let s = c.args in
-    omega (arith, kid-ends s.sizes.h s.leaf s.sizes.z s.path.now s.sibs.now s.level c.if-level-sizes.false c.requires.0.buckets c.requires.1)
-
-pub read-own-requires : goal.read-own-requires
-read-own-requires c =
-    let s = c.args in
-    kid-ends s.sizes.h s.leaf s.sizes.z s.path.now s.sibs.now s.level c.if-level-sizes.false c.requires.0.buckets c.requires.1
+returns-then-level-sizes c = λ rule. kids-none _ _ _ _ _ _ rule (omega arith)
 
 pub returns : goal.returns
 returns c = λ rule.

@@ -1,5 +1,4 @@
 -- `leasts_true` meets its contract: the levels before `level` have passed. Assumes nothing.
-use Prim.Native.Nat.{suc, ◌-◌, ◌≤◌}
 use Rattle.record.specs.declared.Rule.{Rule}
 use Rattle.truth.specs.Leasts.{true_at}
 use Rattle.sound.specs.Fetched.{fetched_in}
@@ -8,7 +7,4 @@ use Rattle.truth.proofs.leasts_true.Given as goal
 
 abbrev pub invariant-loop-level : goal.invariant-loop-level
 invariant-loop-level l =
-    (1 ≤ l.level) × ((rule : Rule) → Passed (true_at l.sizes.h rule (fetched_in l.sizes.z l.leaf l.path l.sibs)) l.sizes.h 1 l.level)
-
-abbrev pub decreases-loop-level : goal.decreases-loop-level
-decreases-loop-level l = suc l.sizes.h - l.level
+    (rule : Rule) → Passed (true_at l.sizes.h rule (fetched_in l.sizes.z l.leaf l.path l.sibs)) l.sizes.h 1 l.level

@@ -1,18 +1,16 @@
 -- `fill_level`: the first k slots of the level have been filled. Assumes nothing.
-use Prim.Native.Nat.{◌-◌}
-use Rattle.way.proofs.EvictLaws.{filling-starts, filling-turns, filling-ends}
+use native.Mathlib.Omega.{arith}
+use mathlib.Core.Path.{◌≡◌, refl}
+use Rattle.way.specs.Evict.{pulls}
+use Rattle.way.proofs.EvictLaws.{slot-next}
 use Rattle.way.proofs.fill_level.Goals as goal
 
 pub loop-k-init : goal.loop-k-init
-loop-k-init c = filling-starts _ _ _ _
+unfolding pulls
+loop-k-init c = refl
 
 pub loop-k-preserved : goal.loop-k-preserved
-loop-k-preserved c =
-    let pulled = c.pull in
-    filling-turns _ _ _ _ _ _ c.loop-k.invariant _ c.loop-k-test.true pulled.auto.w pulled.ensures
-
-pub shape_of-w : goal.shape_of-w
-shape_of-w c = c.loop-k.invariant.room
+loop-k-preserved c = slot-next _ _ _ _ _ _ c.loop-k.invariant c.pull.ensures
 
 pub returns : goal.returns
-returns c = filling-ends _ _ _ _ _ _ c.loop-k.invariant c.loop-k-test.false
+returns c = let all : c.loop-k.k ≡ c.args.sizes.z = omega arith in rw all at c.loop-k.invariant

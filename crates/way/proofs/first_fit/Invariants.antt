@@ -1,5 +1,4 @@
 -- `first_fit`: no record passed so far may move. Assumes nothing.
-use Prim.Native.Nat.{◌-◌}
 use mathlib.Core.Path.{◌≡◌}
 use Rattle.record.specs.Words.{records}
 use Rattle.way.specs.Evict.{seek}
@@ -8,6 +7,3 @@ use Rattle.way.proofs.first_fit.Given as goal
 
 abbrev pub invariant-loop-i : goal.invariant-loop-i
 invariant-loop-i l = seek (agrees l.below l.want) l.lo (records l.w) ≡ seek_from (agrees l.below l.want) l.lo l.w l.i
-
-abbrev pub decreases-loop-i : goal.decreases-loop-i
-decreases-loop-i l = l.lo - l.i

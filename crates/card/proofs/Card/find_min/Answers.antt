@@ -1,13 +1,14 @@
 use mathlib.Core.Path.{refl}
 use Rattle.lists.specs.BucketList.{words_moved, sum}
+use Rattle.refusal.proofs.ReasonLaws.{some-number}
 use Rattle.card.specs.Calls.{found_min}
 use Rattle.card.proofs.AnswerLaws.{told-refused, told-done}
 use Rattle.card.proofs.Card.find_min.Goals as goal
 
-pub returns-then-number-ne0 : goal.returns-then-number-ne0
-returns-then-number-ne0 c =
-    rw c.refuse.ensures (told-refused c.args.self _ _ (found_min c.args.self) c.why-number.ensures c.if-number-ne0.true)
+pub returns-in-Err : goal.returns-in-Err
+returns-in-Err c =
+    rw c.refuse.ensures (told-refused c.args.self _ _ (found_min c.args.self) (rw c.in-Err.is at c.why.ensures) (some-number c.in-Err.reason))
 
 pub returns : goal.returns
 unfolding words_moved sum
-returns c = told-done c.args.self _ _ (found_min c.args.self) c.why-number.ensures c.if-number-ne0.false refl
+returns c = told-done c.args.self _ _ (found_min c.args.self) (rw c.in_default.is at c.why.ensures) refl refl

@@ -11,12 +11,12 @@ pub returns-then-not-in_range : goal.returns-then-not-in_range
 unfolding start_table first_given
 returns-then-not-in_range c =
     let s = c.args in
-    rw (ap not (sym c.in_range.ensures ∙ c.if-not-in_range.true), c.zero-card.ensures)
+    rw (ap not (sym c.in_range.ensures ∙ c.if-not-in_range.true), c.refuse.ensures, c.zero.ensures)
     (is-refused zero_card 1 (started (sizes_of s.h s.z s.r s.t)) (omega arith))
 
 pub returns : goal.returns
 unfolding start_table first_given
 returns c =
     let s = c.args in
-    rw (ap not (sym c.in_range.ensures ∙ c.if-not-in_range.false), c.fresh-card.ensures)
+    rw (ap not (sym c.in_range.ensures ∙ c.if-not-in_range.false), c.fresh.ensures)
     (is-done zero_card 0 (started (sizes_of s.h s.z s.r s.t)) refl refl)

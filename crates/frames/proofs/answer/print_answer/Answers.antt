@@ -1,6 +1,5 @@
 -- `frames::answer::print_answer` meets its contract. The loop: `Writing`. Assumes nothing.
 use native.Mathlib.Omega.{arith}
-use Prim.Native.Nat.{◌-◌}
 use mathlib.Core.Path.{sym, ◌∙◌}
 use Rattle.frames.proofs.AnswerLaws.{writing-starts, writing-ends, next_fits, next-within, next-turn, unfit}
 use Rattle.frames.proofs.answer.print_answer.Goals as goal
@@ -11,30 +10,17 @@ returns-then-not-fits c = unfit _ _ (sym c.if-not-fits.true ∙ c.fits.ensures)
 pub loop-i-init : goal.loop-i-init
 loop-i-init c = writing-starts _ _ (sym c.if-not-fits.false ∙ c.fits.ensures)
 
-pub slice_bounds-print-start : goal.slice_bounds-print-start
-slice_bounds-print-start c = omega (arith, c.loop-i.invariant)
-
-pub slice_bounds-print-end : goal.slice_bounds-print-end
-slice_bounds-print-end c = omega (arith, c.loop-i.invariant)
-
-pub overflow_add-at : goal.overflow_add-at
-overflow_add-at c =
-    omega (arith, next_fits _ _ _ _ _ c.loop-i.invariant c.loop-i-test.true _ _ c.print-width.ensures)
-
 pub bounds-out-at : goal.bounds-out-at
 bounds-out-at c =
-    next-within _ _ _ _ _ c.loop-i.invariant c.loop-i-test.true _ _ c.print-width.ensures
+    next-within _ _ _ _ _ c.loop-i.invariant c.loop-i-test.true _ _ c.print-at.ensures
 
 pub overflow_add-at-in-loop-i : goal.overflow_add-at-in-loop-i
 overflow_add-at-in-loop-i c =
-    omega (arith, next_fits _ _ _ _ _ c.loop-i.invariant c.loop-i-test.true _ _ c.print-width.ensures)
+    omega (arith, next_fits _ _ _ _ _ c.loop-i.invariant c.loop-i-test.true _ _ c.print-at.ensures)
 
 pub loop-i-preserved : goal.loop-i-preserved
 loop-i-preserved c =
-    next-turn _ _ _ _ _ c.loop-i.invariant c.loop-i-test.true _ _ c.print-width.ensures _ c.mark.ensures
-
-pub shape_of-out : goal.shape_of-out
-shape_of-out c = c.loop-i.invariant.room
+    next-turn _ _ _ _ _ c.loop-i.invariant c.loop-i-test.true _ _ c.print-at.ensures _ c.mark.ensures
 
 pub returns : goal.returns
 returns c = writing-ends _ _ _ _ _ c.loop-i.invariant c.loop-i-test.false

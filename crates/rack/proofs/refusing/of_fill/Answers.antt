@@ -8,15 +8,12 @@ pub returns-then-not-tree_in_range : goal.returns-then-not-tree_in_range
 unfolding first_given
 returns-then-not-tree_in_range c = rw (sym c.tree_in_range.ensures ∙ c.if-not-tree_in_range.true)
 
-pub tree_words-requires : goal.tree_words-requires
-tree_words-requires c = sym c.tree_in_range.ensures ∙ c.if-not-tree_in_range.false
-
 pub returns-then-tree-tree_words : goal.returns-then-tree-tree_words
 unfolding first_given
 returns-then-tree-tree_words c =
-    rw (sym c.tree_in_range.ensures ∙ c.if-not-tree_in_range.false, ne_eqb _ _ (rw c.tree_words.ensures at c.if-tree-tree_words.true))
+    rw (sym c.tree_in_range.ensures ∙ c.if-not-tree_in_range.false, eq-eqb _ _ (c.if-tree-tree_words.true ∙ c.tree_words.ensures))
 
-pub returns : goal.returns
+pub returns-else-tree-tree_words : goal.returns-else-tree-tree_words
 unfolding first_given
-returns c =
-    rw (sym c.tree_in_range.ensures ∙ c.if-not-tree_in_range.false, eq-eqb _ _ (c.if-tree-tree_words.false ∙ c.tree_words.ensures))
+returns-else-tree-tree_words c =
+    rw (sym c.tree_in_range.ensures ∙ c.if-not-tree_in_range.false, ne_eqb _ _ (rw c.tree_words.ensures at c.if-tree-tree_words.false))

@@ -9,9 +9,10 @@ returns-then-self-other c = λ rule. rw (lt-ltb _ _ c.if-self-other.true)
 
 pub returns-then-self-other-2 : goal.returns-then-self-other-2
 unfolding before
-returns-then-self-other-2 c = λ rule. rw (le-ltb _ _ c.if-self-other.false, ne_eqb _ _ c.if-self-other-2.true)
+returns-then-self-other-2 c = λ rule.
+    rw (le-ltb _ _ c.if-self-other.false, eq-eqb _ _ c.if-self-other-2.true, leb-last)
 
-pub returns : goal.returns
+pub returns-else-self-other-2 : goal.returns-else-self-other-2
 unfolding before
-returns c = λ rule.
-    rw (le-ltb _ _ c.if-self-other.false, eq-eqb _ _ c.if-self-other-2.false, leb-last)
+returns-else-self-other-2 c = λ rule.
+    rw (le-ltb _ _ c.if-self-other.false, ne_eqb _ _ c.if-self-other-2.false)

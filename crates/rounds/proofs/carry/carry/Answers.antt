@@ -1,19 +1,21 @@
 -- `rounds::carry::carry` meets its contract: what fetch, finish and store promise is put together by proofs/CarryLaws.antt. Assumes nothing.
+use mathlib.Core.Path.{ap}
+use Rattle.refusal.specs.Reason.{refusal_in}
 use Rattle.world.specs.World.{holding_list}
 use Rattle.rounds.proofs.CarryLaws.{fetch-refuses, finish-refuses, all_done_lem}
 use Rattle.rounds.proofs.carry.carry.Goals as goal
 
-pub returns-then-refused-ne0 : goal.returns-then-refused-ne0
-returns-then-refused-ne0 c =
+pub returns-in-Err : goal.returns-in-Err
+returns-in-Err c =
     let s = c.args in
-    fetch-refuses s.card (holding_list s.begun s.tree.now s.list.now s.n) _ _ c.fetch-fetched.ensures _ c.number-refused.ensures c.if-refused-ne0.true _ c.refuse.ensures
+    fetch-refuses s.card (holding_list s.begun s.tree.now s.list.now s.n) _ _ c.fetch-fetched.ensures _ c.in-Err.is _ (rw c.number.ensures at c.refuse.ensures)
 
 pub returns-then-said-ne0 : goal.returns-then-said-ne0
 returns-then-said-ne0 c =
     let s = c.args in
-    finish-refuses s.card (holding_list s.begun s.tree.now s.list.now s.n) _ _ c.fetch-fetched.ensures _ c.number-refused.ensures c.if-refused-ne0.false _ _ c.finish-done.ensures _ c.number_of-said.ensures c.if-said-ne0.true _ c.refuse-then-said-ne0.ensures
+    finish-refuses s.card (holding_list s.begun s.tree.now s.list.now s.n) _ _ c.fetch-fetched.ensures (ap refusal_in c.in_default.is) _ _ c.finish-done.ensures _ c.number_of-said.ensures c.if-said-ne0.true _ c.refuse-then-said-ne0.ensures
 
 pub returns : goal.returns
 returns c =
     let s = c.args in
-    all_done_lem s.card (holding_list s.begun s.tree.now s.list.now s.n) _ _ c.fetch-fetched.ensures _ c.number-refused.ensures c.if-refused-ne0.false _ _ c.finish-done.ensures _ c.number_of-said.ensures c.if-said-ne0.false _ _ c.store.ensures
+    all_done_lem s.card (holding_list s.begun s.tree.now s.list.now s.n) _ _ c.fetch-fetched.ensures (ap refusal_in c.in_default.is) _ _ c.finish-done.ensures _ c.number_of-said.ensures c.if-said-ne0.false _ _ c.store.ensures

@@ -15,16 +15,16 @@ pub slice_bounds-line-end : goal.slice_bounds-line-end
 slice_bounds-line-end c =
     let s = c.args.sitting in
     let long : length s.line ≡ 129 = search (rules, length-mapped, c.well_formed) in
-    omega (arith, c.least-n.ensures)
+    omega (arith, c.min-n.ensures)
 
 pub slice_bounds-answer_line-end : goal.slice_bounds-answer_line-end
 slice_bounds-answer_line-end c =
     let s = c.args.sitting in
     let long : length s.line ≡ 129 = search (rules, length-mapped, c.well_formed) in
-    sym (length-take-le _ _ (omega (arith, c.least-n.ensures)))
+    sym (length-take-le _ _ (omega (arith, c.min-n.ensures)))
 
 pub returns : goal.returns
 returns c =
     let s = c.args in
     let long : length s.sitting.line ≡ 129 = search (rules, length-mapped, c.well_formed) in
-    closes-some s.sitting s.tree.now _ s.out.now _ _ _ long c.if-held-eq0.false c.least-n.ensures c.answer_line-done.ensures
+    closes-some s.sitting s.tree.now _ s.out.now _ _ _ long c.if-held-eq0.false c.min-n.ensures c.answer_line.ensures

@@ -1,7 +1,6 @@
 -- `sitting::feeding::feed` meets its contract. The loop: `Feeding`. Assumes nothing.
 use borrow.Author.Rules.{rules}
 use native.Mathlib.Omega.{arith}
-use Prim.Native.Nat.{◌-◌}
 use mathlib.Core.Path.{◌≡◌, sym}
 use lib.ListN.{length}
 use lib.Seq.{length-take-le}
@@ -15,7 +14,7 @@ pub loop-line-init : goal.loop-line-init
 loop-line-init c =
     let s = c.args in
     let long : length s.sitting.line ≡ 129 = search (rules, length-mapped, c.well_formed) in
-    feeding-starts _ _ _ _ _ _ long (omega (arith, c.least-held.ensures))
+    feeding-starts _ _ _ _ _ _ long (omega (arith, c.min-held.ensures))
 
 pub overflow_sub-out : goal.overflow_sub-out
 overflow_sub-out c = room-left _ _ _ _ _ _ _ _ _ _ c.loop-line.invariant
@@ -78,4 +77,4 @@ pub returns : goal.returns
 returns c =
     let s = c.args in
     let long : length s.sitting.line ≡ 129 = search (rules, length-mapped, c.well_formed) in
-    feeding-ends s.sitting s.tree.now s.chunk.now s.out.now _ long c.least-held.ensures _ _ _ _ _ _ _ _ c.loop-line.invariant _ c.goes_on.ensures c.loop-line-test.false c.clear.ensures
+    feeding-ends s.sitting s.tree.now s.chunk.now s.out.now _ long c.min-held.ensures _ _ _ _ _ _ _ _ c.loop-line.invariant _ c.goes_on.ensures c.loop-line-test.false c.clear.ensures

@@ -1,24 +1,20 @@
-use native.Mathlib.Omega.{arith}
-use mathlib.Core.Path.{sym, ◌∙◌}
-use Rattle.path.specs.Sizes.{in_range}
-use Rattle.path.proofs.SizesLaws.{tree-in}
+-- The last range, in parts: so a bound that is off is refused at its part. Assumes nothing.
+use borrow.Author.Rules.{rules}
+use mathlib.Core.Bool.{true}
+use mathlib.Core.Path.{◌≡◌}
+use Rattle.path.specs.Sizes.{in_range, tree_in, root_in, most_in, between}
 use Rattle.path.proofs.sizes.Sizes.in_range.Goals as goal
+use Rattle.path.proofs.sizes.Sizes.in_range.Goals.{then-tree_in_range, else-tree_in_range}
 
-pub returns-then-not-tree_in_range : goal.returns-then-not-tree_in_range
-unfolding in_range
-returns-then-not-tree_in_range c = rw (sym c.tree_in_range.ensures ∙ c.if-not-tree_in_range.true)
-
-pub returns-then-not-between : goal.returns-then-not-between
-unfolding in_range
-returns-then-not-between c =
-    rw (sym c.tree_in_range.ensures ∙ c.if-not-tree_in_range.false, sym c.between.ensures ∙ c.if-not-between.true)
-
-pub leaves-requires : goal.leaves-requires
-leaves-requires c =
-    let t = tree-in _ _ (sym c.tree_in_range.ensures ∙ c.if-not-tree_in_range.false) in
-    omega (arith, t.height.1)
-
-pub returns : goal.returns
-unfolding in_range
-returns c =
-    rw (sym c.tree_in_range.ensures ∙ c.if-not-tree_in_range.false, sym c.between.ensures ∙ c.if-not-between.false, ← c.leaves.ensures) c.between-2.ensures
+pub returns-then-contains : goal.returns-then-contains
+unfolding in_range between
+returns-then-contains c =
+    let s = c.args.self in
+    elim c.if-tree_in_range.branch [
+      | then-tree_in_range w ↦
+          let tree : tree_in s.h s.z ≡ true = search rules in
+          let root : root_in s.r ≡ true = search rules in
+          let most : c.contains-then-contains.result ≡ most_in s.h s.t = search rules in
+          rw (tree, root) most
+      | else-tree_in_range w ↦ absurd (search rules)
+    ]

@@ -1,2 +1,0 @@
--- The laws of the finish of a job.
-mod JobLaws

@@ -1,9 +1,0 @@
--- `load` is safe and ends. Assumes nothing.
-use Rattle.std.proofs.Common.{◌≤◌}
-use Rattle.probe.proofs.words.load.Given as goal
-
-abbrev pub invariant-loop-k : goal.invariant-loop-k
-invariant-loop-k l = l.k ≤ 8
-
-abbrev pub decreases-loop-k : goal.decreases-loop-k
-decreases-loop-k l = l.k
