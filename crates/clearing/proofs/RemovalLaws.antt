@@ -11,11 +11,13 @@ use native.Mathlib.Omega.{arith}
 use lib.ListN.{length, get_or, set, drop, length-set, drop_of_length-le}
 use lib.Seq.{drop-set-lt, set_out}
 use borrow.Author.Tests.{lt-ltb, le-ltb, ltb-true}
+use Rattle.std.specs.Prelude.{Option, Some, None}
 use Rattle.record.specs.declared.Record.{Record}
 use Rattle.record.specs.Standing.{dummy}
 use Rattle.record.specs.Words.{records, written}
 use Rattle.record.proofs.WordsLaws.{records-count, records-written}
-use Rattle.way.specs.Evict.{seek}
+use Rattle.way.specs.Evict.{seek, placed}
+use Rattle.way.proofs.EvictLaws.{placed-is, placed_out}
 use Rattle.gather.specs.Laid.{laid_over}
 use Rattle.clearing.specs.Removal.{found, removed, Cleared}
 use Rattle.gather.proofs.LaidLaws.{laid-all, laid-records}
@@ -38,23 +40,27 @@ written_all ws p r h =
     sym e ∙ rw (length-set, drop-written ws p (4 * (0 + length (records ws))) r (omega arith))
 
 -- the search has ended: the record found is cleared, or nothing
-module _ (f : Record → Bool) (ws : List ℕ) (i : ℕ) (q : i ≡ seek f (length (records ws)) (records ws)) where
-  pub clear-found : i < length ws / 4 → Cleared f ws (written ws i dummy) true
+module _ (f : Record → Bool) (ws : List ℕ) where
+  abbrev place : Option ℕ
+  place = placed (length (records ws)) (seek f (length (records ws)) (records ws))
+
+  pub clear-found : (i : ℕ) → Some i ≡ place → Cleared f ws (written ws i dummy) true
   unfolding found removed
-  clear-found l =
+  clear-found i p =
       let n = records-count ws in
+      let (s, l) = placed-is _ _ i p in
       record {
-        answered = rw (← q) (sym (lt-ltb i _ (omega arith)));
-        words = rw (← q) (written_all ws i dummy l);
+        answered = rw s (sym (lt-ltb i _ l));
+        words = rw s (written_all ws i dummy (omega arith));
       }
 
-  pub clear_none : length ws / 4 ≤ i → Cleared f ws ws false
+  pub clear_none : None ≡ place → Cleared f ws ws false
   unfolding found removed
-  clear_none l =
-      let n = records-count ws in
+  clear_none p =
+      let out = placed_out _ _ p in
       record {
-        answered = rw (← q) (sym (le-ltb i _ (omega arith)));
-        words = rw (← q, set_out (records ws) i dummy (omega arith), laid-all);
+        answered = sym (le-ltb _ _ out);
+        words = rw (set_out (records ws) _ dummy out, laid-all);
       }
 
 -- ---- for crates above: a scratch cleared

@@ -6,7 +6,7 @@
 
 ghost use Rattle.std.specs.Prelude.{◌≡◌, length};
 ghost use Rattle.record.specs.Words.{records};
-ghost use Rattle.way.specs.Evict.{seek};
+ghost use Rattle.way.specs.Evict.{seek, placed};
 ghost use Rattle.clearing.specs.Removal.{named, Cleared};
 
 use record::{Leaf, RECORD_WORDS, Record, Stamp};
@@ -20,19 +20,11 @@ fn is_named(record: Record, label: Leaf, stamp: Stamp) -> bool
     record.stamp == stamp && record.label == label && !record.is_dummy()
 }
 
-// For crates above: the place of the first record of this label and stamp; the number of places if there is none.
-// Kept: that number for none, as `seek` has it, by which the rule of a removal is told.
-pub fn find(w: &[u64], label: Leaf, stamp: Stamp) -> usize
-    ensures { result ≡ seek (named label stamp) (length (records w.now)) (records w.now) }
+// For crates above: the place of the first record of this label and stamp; `None` if there is none.
+pub fn find(w: &[u64], label: Leaf, stamp: Stamp) -> Option<usize>
+    ensures { result ≡ placed (length (records w.now)) (seek (named label stamp) (length (records w.now)) (records w.now)) }
 {
-    let n = w.len() / RECORD_WORDS;
-    for i in 0..n {
-        let record = Record::read(w, i);
-        if is_named(record, label, stamp) {
-            return i;
-        }
-    }
-    n
+    (0..w.len() / RECORD_WORDS).find(|&i| is_named(Record::read(w, i), label, stamp))
 }
 
 // For crates above: the record of this label and stamp replaced by the dummy, all four words of it, or nothing changed;
@@ -40,10 +32,9 @@ pub fn find(w: &[u64], label: Leaf, stamp: Stamp) -> usize
 pub fn clear(w: &mut [u64], label: Leaf, stamp: Stamp) -> bool
     ensures { Cleared (named label stamp) w.old w.new result }
 {
-    let i = find(w, label, stamp);
-    let found = i < w.len() / RECORD_WORDS;
-    if found {
+    let found = find(w, label, stamp);
+    if let Some(i) = found {
         Record::DUMMY.write(w, i);
     }
-    found
+    found.is_some()
 }

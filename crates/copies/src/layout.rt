@@ -2,21 +2,12 @@
 ghost use Rattle.std.specs.Prelude.{◌≡◌, true, ◌≤◌, ◌<◌, ◌^◌};
 ghost use Rattle.path.specs.Path.{bucket};
 ghost use Rattle.path.specs.Sizes.{tree_in};
-ghost use Rattle.path.specs.Layout.{bucket_words, bucket_start, tree_words};
+ghost use Rattle.path.specs.Layout.{bucket_start, tree_words};
 
-use path::leaves;
-use record::RECORD_WORDS;
+use path::{bucket_words, leaves};
 
 // The tree begins with bucket 2: the root is on the card.
 pub const FIRST_BUCKET: u64 = 2;
-
-// For crates above.
-pub fn bucket_words(z: u64) -> usize
-    requires { z ≤ 5 }
-    ensures { result ≡ bucket_words z }
-{
-    RECORD_WORDS * (z as usize + 1)
-}
 
 // For crates above.
 pub fn tree_words(h: u64, z: u64) -> usize

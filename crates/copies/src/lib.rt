@@ -12,11 +12,12 @@ ghost use Rattle.path.specs.Path.{bucket};
 ghost use Rattle.path.specs.Layout.{bucket_words};
 ghost use Rattle.copies.specs.Copy.{listed, part_words, fetched, stored, Covered};
 
+use path::bucket_words;
 use record::{RECORD_WORDS, Record, copy_words};
 
 mod layout;
 
-pub use layout::{FIRST_BUCKET, bucket_words, tree_words};
+pub use layout::{FIRST_BUCKET, tree_words};
 
 // For crates above: a dummy in every place.
 pub fn fill_dummies(tree: &mut [u64])
@@ -37,7 +38,7 @@ fn part_words(z: u64, whole: usize, i: usize) -> usize
     ensures { result ≡ part_words z whole i }
 {
     if i < whole {
-        layout::bucket_words(z)
+        bucket_words(z)
     } else {
         RECORD_WORDS
     }
@@ -71,7 +72,7 @@ pub fn store_listed(z: u64, tree: &mut [u64], list: &[u64], whole: usize, words:
     requires z_in_bounds { whole * bucket_words z ≤ length words.now }
     ensures { tree.new ≡ stored z (map bucket (take whole list.now)) words.now tree.old }
 {
-    let bucket = layout::bucket_words(z);
+    let bucket = bucket_words(z);
     let mut at = 0;
     for &number in &list[..whole] {
         let to = layout::bucket_start(z, number);

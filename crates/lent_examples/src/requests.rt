@@ -20,50 +20,38 @@ fn round(rt: &impl Print, card: Card, tree: &mut [u64], request: Request) -> io:
     told(rt, done)
 }
 
-fn insert(
-    rt: &impl Print,
-    card: Card,
-    tree: &mut [u64],
-    key: u64,
-    value: u64,
-    label: Leaf,
-) -> io::Result<Card> {
-    let request = Request::Insert {
+// Inserts of the sample have the leaves 1 and 2 to evict.
+fn insert(key: u64, value: u64, label: u64) -> Request {
+    Request::Insert {
         key,
         value,
-        label,
+        label: Leaf(label),
         first: Leaf(1),
         second: Leaf(2),
-    };
-    round(rt, card, tree, request)
+    }
 }
 
-fn extract(rt: &impl Print, card: Card, tree: &mut [u64]) -> io::Result<Card> {
-    round(rt, card, tree, Request::Extract)
-}
+const DELETE: Request = Request::Delete {
+    label: Leaf(0),
+    stamp: Stamp(0),
+};
 
-fn delete(
-    rt: &impl Print,
-    card: Card,
-    tree: &mut [u64],
-    label: Leaf,
-    stamp: Stamp,
-) -> io::Result<Card> {
-    let request = Request::Delete { label, stamp };
-    round(rt, card, tree, request)
+fn rounds(rt: &impl Print, card: Card, tree: &mut [u64], requests: &[Request]) -> io::Result<Card> {
+    let mut card = card;
+    for &request in requests {
+        card = round(rt, card, tree, request)?;
+    }
+    Ok(card)
 }
 
 // Lines 2 to 4 of the sample: the last finds the root full.
 pub(crate) fn insertions(rt: &impl Print, fresh: Card, tree: &mut [u64]) -> io::Result<Card> {
-    let one = insert(rt, fresh, tree, 7, 70, Leaf(0))?;
-    let two = insert(rt, one, tree, 5, 50, Leaf(0))?;
-    insert(rt, two, tree, 6, 60, Leaf(3))
+    let requests = [insert(7, 70, 0), insert(5, 50, 0), insert(6, 60, 3)];
+    rounds(rt, fresh, tree, &requests)
 }
 
 // Lines 6 to 9: the second Delete finds nothing, and then no event is left.
 pub(crate) fn removals(rt: &impl Print, full: Card, tree: &mut [u64]) -> io::Result<Card> {
-    let one = extract(rt, full, tree)?;
-    let two = delete(rt, one, tree, Leaf(0), Stamp(0))?;
-    let three = delete(rt, two, tree, Leaf(0), Stamp(0))?;
-    extract(rt, three, tree)
+    let requests = [Request::Extract, DELETE, DELETE, Request::Extract];
+    rounds(rt, full, tree, &requests)
 }

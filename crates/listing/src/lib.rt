@@ -8,7 +8,7 @@ ghost use Rattle.lists.specs.BucketList.{Names, counts, fetched_for};
 ghost use Rattle.listing.specs.Listing.{list_for, Listable, places_asked, words_asked};
 
 use lists::Listed;
-use path::Sizes;
+use path::{Sizes, bucket_words};
 use record::RECORD_WORDS;
 use request::Job;
 
@@ -35,11 +35,11 @@ fn counts_for(sizes: Sizes, job: Job) -> Listed
 }
 
 // The words that are fetched for a list of so many numbers.
-fn fetched_for(counts: Listed, z: usize) -> usize
+fn fetched_for(counts: Listed, z: u64) -> usize
     requires { (z ≤ 5) × ((counts.whole ≤ 32) × (counts.least ≤ 32)) }
     ensures { result ≡ fetched_for z counts }
 {
-    counts.whole * (RECORD_WORDS * (z + 1)) + counts.least * RECORD_WORDS
+    counts.whole * bucket_words(z) + counts.least * RECORD_WORDS
 }
 
 // For crates above: the list of a job has more numbers than so many places.
@@ -57,5 +57,5 @@ pub fn are_words_more(sizes: Sizes, job: Job, room: usize) -> bool
     ensures { result ≡ ltb room (words_asked sizes job) }
 {
     let counts = counts_for(sizes, job);
-    room < fetched_for(counts, sizes.z as usize)
+    room < fetched_for(counts, sizes.z)
 }

@@ -9,7 +9,7 @@ ghost use Rattle.record.specs.declared.Bucket.{Bucket};
 ghost use Rattle.path.specs.Path.{path, sibling_of, number};
 ghost use Rattle.lists.specs.BucketList.{pair_list, path_list, pair_counts, path_counts, numbers, laid_from, Names, Room, Gives, moved};
 
-use path::{Sizes, sibling};
+use path::{Sizes, bucket_words, sibling};
 use record::{Bucket, Leaf, RECORD_WORDS};
 
 // How many buckets of a list are whole, and how many of the numbers after them are for the least record only.
@@ -28,7 +28,7 @@ impl Listed {
         requires { (z ≤ 5) × ((self.whole ≤ 32) × (self.least ≤ 32)) }
         ensures { result ≡ moved z self }
     {
-        let bucket = LEAST_WORDS * (z + 1);
+        let bucket = bucket_words(z) as u64;
         self.whole as u64 * (2 * bucket) + self.least as u64 * LEAST_WORDS
     }
 }

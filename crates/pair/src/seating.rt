@@ -11,8 +11,7 @@ pub fn seat(w: &mut [u64], r: usize, new: Record)
     requires { 4 * r ≤ length w.old }
     ensures { records w.new ≡ seated r new (records w.old) }
 {
-    let place = root::lowest_dummy(w, r);
-    if place < r {
+    if let Some(place) = root::lowest_dummy(w, r) {
         new.write(w, place);
     }
 }

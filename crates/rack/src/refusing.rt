@@ -14,7 +14,7 @@ fn few_words(z: u64, whole: usize, least: usize, words: usize) -> bool
     requires { z ≤ 5 }
     ensures { result ≡ few_words z whole least words }
 {
-    let bucket = copies::bucket_words(z);
+    let bucket = path::bucket_words(z);
     words / bucket < whole || (words - whole * bucket) / RECORD_WORDS < least
 }
 

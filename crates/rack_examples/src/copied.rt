@@ -11,8 +11,8 @@ pub(crate) const P12: [u64; 6] = [2, 5, 3, 6, 4, 7];
 pub(crate) fn fresh(rt: &impl Print) -> io::Result<()> {
     let mut tree = [7u64; 16];
     let done = rack::fill(&mut tree, 1, 1);
-    line::answer(rt, b"fill of height 1 with 1 slot:", number_of(done))?;
-    line::parts(rt, b"bucket", &[2u64, 3], 8, &tree)
+    println!(rt; "fill of height 1 with 1 slot: {}", number_of(done))?;
+    line::parts(rt, "bucket", &[2u64, 3], 8, &tree)
 }
 
 // The words fetched for a list whose first `whole` numbers are whole, and those past it.
@@ -21,9 +21,9 @@ fn fetch_lines(rt: &impl Print, list: &[u64], whole: usize, words: &[u64]) -> io
 {
     let split = 8 * whole;
     let end = split + 4 * (list.len() - whole);
-    line::parts(rt, b"bucket", &list[0..whole], 8, words)?;
-    line::parts(rt, b"least of", &list[whole..], 4, &words[split..])?;
-    line::words(rt, b"past the list:", &words[end..])
+    line::parts(rt, "bucket", &list[0..whole], 8, words)?;
+    line::parts(rt, "least of", &list[whole..], 4, &words[split..])?;
+    line::words(rt, "past the list:", &words[end..])
 }
 
 pub(crate) fn fetched(rt: &impl Print) -> io::Result<()> {
@@ -32,10 +32,9 @@ pub(crate) fn fetched(rt: &impl Print) -> io::Result<()> {
     let list = P12;
     let mut words = [9u64; 44];
     let done = rack::fetch(2, 1, &tree, &list, 4, 2, &mut words);
-    line::answer(
-        rt,
-        b"fetch of the list of P12 in a fresh tree:",
-        number_of(done),
+    println!(rt;
+        "fetch of the list of P12 in a fresh tree: {}",
+        number_of(done)
     )?;
     fetch_lines(rt, &list, 4, &words)
 }
@@ -51,7 +50,7 @@ fn number_from(words: &mut [u64], first: u64)
 
 fn store_from(
     rt: &impl Print,
-    text: &[u8],
+    text: &str,
     tree: &mut [u64],
     list: &[u64],
     whole: usize,
@@ -63,7 +62,7 @@ fn store_from(
     let mut words = [9u64; 44];
     number_from(&mut words, first);
     let done = rack::store(2, 1, tree, list, whole, least, &words);
-    line::answer(rt, text, number_of(done))
+    println!(rt; "{text} {}", number_of(done))
 }
 
 pub(crate) fn stored(rt: &impl Print) -> io::Result<()> {
@@ -72,14 +71,14 @@ pub(crate) fn stored(rt: &impl Print) -> io::Result<()> {
     let list = P12;
     store_from(
         rt,
-        b"store of changed words by the list of P12:",
+        "store of changed words by the list of P12:",
         &mut tree,
         &list,
         4,
         2,
         100,
     )?;
-    line::parts(rt, b"bucket", &[2u64, 3, 4, 5, 6, 7], 8, &tree)?;
+    line::parts(rt, "bucket", &[2u64, 3, 4, 5, 6, 7], 8, &tree)?;
     fetched_again(rt, &tree)?;
     stored_twice(rt, &mut tree)
 }
@@ -88,18 +87,17 @@ fn fetched_again(rt: &impl Print, tree: &[u64]) -> io::Result<()> {
     let list = [6u64, 2, 5];
     let mut words = [9u64; 24];
     let done = rack::fetch(2, 1, tree, &list, 2, 1, &mut words);
-    line::answer(
-        rt,
-        b"fetch of 6 and 2 whole, of 5 the least record:",
-        number_of(done),
+    println!(rt;
+        "fetch of 6 and 2 whole, of 5 the least record: {}",
+        number_of(done)
     )?;
     fetch_lines(rt, &list, 2, &words)
 }
 
 // "of one number named twice the later store stands"
 fn stored_twice(rt: &impl Print, tree: &mut [u64]) -> io::Result<()> {
-    store_from(rt, b"store of bucket 2 twice:", tree, &[2u64, 2], 2, 0, 200)?;
-    line::parts(rt, b"bucket", &[2u64, 3], 8, tree)?;
+    store_from(rt, "store of bucket 2 twice:", tree, &[2u64, 2], 2, 0, 200)?;
+    line::parts(rt, "bucket", &[2u64, 3], 8, tree)?;
     fetched_twice(rt, tree)
 }
 
@@ -107,6 +105,6 @@ fn fetched_twice(rt: &impl Print, tree: &[u64]) -> io::Result<()> {
     let list = [2u64, 2];
     let mut words = [9u64; 16];
     let done = rack::fetch(2, 1, tree, &list, 2, 0, &mut words);
-    line::answer(rt, b"fetch of bucket 2 twice:", number_of(done))?;
-    line::parts(rt, b"bucket", &list, 8, &words)
+    println!(rt; "fetch of bucket 2 twice: {}", number_of(done))?;
+    line::parts(rt, "bucket", &list, 8, &words)
 }

@@ -1,16 +1,18 @@
 -- A pass over slots that stand in words, place by place. Assumes nothing.
 use Prim.Native.Nat.{ℕ, zero, suc, ◌+◌, ◌/◌, ◌≤◌, ◌<◌}
-use mathlib.Core.Bool.{Bool, true, false, ◌||◌, and-false}
+use mathlib.Core.Bool.{Bool, true, false, not, ◌||◌, and-false, not-not}
 use mathlib.Core.List.{List, [], ◌∷◌}
 use mathlib.Core.Logic.{inl, inr}
 use mathlib.Core.Path.{◌≡◌, refl, sym, ap, ◌∙◌}
 use mathlib.Mathlib.Data.Bool.Basic.{dichotomy}
 use native.Mathlib.Omega.{arith}
-use lib.Dec.{leb, eqb, eqb-suc-suc, eqb-zero-suc}
+use lib.Dec.{leb, ltb, leb-suc-suc}
 use lib.ListN.{length, take, drop}
 use lib.Seq.{take_all}
-use borrow.Author.Tests.{eq-eqb}
+use borrow.Author.Tests.{lt-ltb, le-ltb}
+use Rattle.std.specs.Prelude.{Option}
 use Rattle.std.specs.List.{list_all, range_with_len}
+use Rattle.std.specs.Option.{is_some}
 use Rattle.record.specs.declared.Rule.{Rule}
 use Rattle.record.specs.declared.Record.{Record}
 use Rattle.record.specs.Standing.{dummy, is_dummy, is_proper, may_stand}
@@ -19,7 +21,8 @@ use Rattle.record.specs.Many.{every, reals}
 use Rattle.record.specs.Words.{record_at, records}
 use Rattle.record.proofs.PlacesLaws.{pass-starts, pass-turns, pass-fails, pass-ends, reals-dummy, reals-next}
 use Rattle.record.proofs.WordsLaws.{records-at, records-count, records-next, records-end}
-use Rattle.way.specs.Evict.{seek}
+use Rattle.way.specs.Evict.{seek, placed}
+use Rattle.way.proofs.EvictLaws.{placed-some}
 use Rattle.root.specs.Root.{slots_fine, root_full}
 
 -- a record that is the dummy, or no earlier than `least`
@@ -97,11 +100,16 @@ places-all f ws i zero e = rw (records-end ws i (omega arith))
 places-all f ws i (suc n) e = rw (records-next ws i (omega arith), ← places-all f ws (i + 1) n (omega arith))
 
 -- "every root slot real": the lowest dummy slot is none of them
-pub full-slots : (n : ℕ) (xs : List Record) → eqb (seek is_dummy n xs) n ≡ root_full n xs
+full-seek : (n : ℕ) (xs : List Record) → ltb (seek is_dummy n xs) n ≡ not (root_full n xs)
 unfolding root_full seek every
-full-slots zero xs = refl
-full-slots (suc n) [] = eq-eqb (suc n) (suc n) refl
-full-slots (suc n) (x ∷ xs) = elim (dichotomy (is_dummy x)) [
-  | inl f ↦ rw f (eqb-suc-suc _ n ∙ full-slots n xs)
-  | inr t ↦ rw t (eqb-zero-suc n)
+full-seek zero xs = refl
+full-seek (suc n) [] = le-ltb (suc n) (suc n) (omega arith)
+full-seek (suc n) (x ∷ xs) = elim (dichotomy (is_dummy x)) [
+  | inl f ↦ rw f (leb-suc-suc _ n ∙ full-seek n xs)
+  | inr t ↦ rw t (lt-ltb 0 (suc n) (omega arith))
 ]
+
+pub full-slots : (n : ℕ) (xs : List Record) (place : Option ℕ) (none : Bool) → place ≡ placed n (seek is_dummy n xs)
+    → is_some place ≡ not none → none ≡ root_full n xs
+full-slots n xs place none p e =
+    sym (not-not none) ∙ ap not (sym e ∙ ap is_some p ∙ placed-some n _ ∙ full-seek n xs) ∙ not-not (root_full n xs)

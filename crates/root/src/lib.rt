@@ -6,7 +6,7 @@ ghost use Rattle.std.specs.Prelude.{◌≡◌};
 ghost use Rattle.record.specs.Standing.{is_dummy};
 ghost use Rattle.record.specs.Many.{every};
 ghost use Rattle.record.specs.Words.{records};
-ghost use Rattle.way.specs.Evict.{seek};
+ghost use Rattle.way.specs.Evict.{seek, placed};
 ghost use Rattle.root.specs.Root.{slots_fine, root_full};
 
 use record::{RECORD_WORDS, Record, Rule};
@@ -35,22 +35,16 @@ pub fn all_dummies(places: &[u64]) -> bool
     (0..places.len() / RECORD_WORDS).all(|i| Record::read(places, i).is_dummy())
 }
 
-// For crates above: the lowest of the first n slots that is the dummy; n if none is.
-// Kept: n for none, as `seek` has it, which tells the slot that an Insert takes.
-pub fn lowest_dummy(slots: &[u64], n: usize) -> usize
-    ensures { result ≡ seek is_dummy n (records slots.now) }
+// For crates above: the lowest of the first n slots that is the dummy; `None` if none is.
+pub fn lowest_dummy(slots: &[u64], n: usize) -> Option<usize>
+    ensures { result ≡ placed n (seek is_dummy n (records slots.now)) }
 {
-    for place in 0..n.min(slots.len() / RECORD_WORDS) {
-        if Record::read(slots, place).is_dummy() {
-            return place;
-        }
-    }
-    n
+    (0..n.min(slots.len() / RECORD_WORDS)).find(|&place| Record::read(slots, place).is_dummy())
 }
 
 // For crates above: "every root slot real".
 pub fn all_real(slots: &[u64], n: usize) -> bool
     ensures { result ≡ root_full n (records slots.now) }
 {
-    lowest_dummy(slots, n) == n
+    lowest_dummy(slots, n).is_none()
 }

@@ -1,4 +1,4 @@
 -- The laws of a request played on both sides that crates above cite.
 pub mod RoundLaws
 pub mod CarryLaws
-pub mod GoOnLaws
+pub mod BegunLaws

@@ -8,9 +8,9 @@
 
 ghost use Rattle.rounds.specs.Round.{Plays};
 
-mod answer;
 mod carry;
 
+use answers::Answer;
 use card::{Card, Done};
 use request::Request;
 
@@ -22,5 +22,8 @@ pub fn play(card: Card, request: Request, tree: &mut [u64]) -> Done
 {
     let mut list = [0u64; LIST_PLACES];
     let begun = card.begin(request, &mut list);
-    carry::go_on(card, begun, &list, tree)
+    let Answer::Listed(n) = begun.answer else {
+        return Done { card, ..begun };
+    };
+    carry::carry(card, begun.card, &list, n, tree)
 }

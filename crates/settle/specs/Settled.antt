@@ -14,7 +14,7 @@ abbrev pub settled : Left → ℕ → Settled
 settled l moved =
     record { root = l.root; least = l.least; c = l.c; found = l.found; moved = moved }
 
--- one that is Damaged: the card's parts stay as they came
+-- one that is Damaged
 abbrev pub unsettled : {A : Type 0} → Result A Damaged
 unsettled = Err (record {})
 

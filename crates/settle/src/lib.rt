@@ -11,7 +11,7 @@ ghost use Rattle.path.specs.Cut.{Cut};
 ghost use Rattle.settle.specs.Settled.{judged};
 
 use parts::Parts;
-use path::{HEIGHT_MOST, ROOT_PLACES, ROOT_WORDS, SLOTS_MOST, Sizes};
+use path::{HEIGHT_MOST, ROOT_PLACES, ROOT_WORDS, SLOTS_MOST, Sizes, bucket_words};
 use record::{RECORD_WORDS, Record};
 
 // What a finish makes of the card's parts, whether a record was found to remove, and the words moved.
@@ -54,9 +54,7 @@ pub fn path_words(sizes: Sizes) -> usize
     requires { Cut sizes }
     ensures { (result ≡ sizes.h * bucket_words sizes.z) × (result ≤ 384) }
 {
-    let h = sizes.h as usize;
-    let z = sizes.z as usize;
-    h * (RECORD_WORDS * (z + 1))
+    sizes.h as usize * bucket_words(sizes.z)
 }
 
 // "or the card that would come out is a BadCard"; no request waits on it.

@@ -15,7 +15,8 @@ pub fn open() -> Sitting
     }
 }
 
-// The end of the input: "the last line may lack its line end". Hands back how many bytes were printed.
+// The end of the input: "the last line may lack its line end". Hands back how many bytes were
+// printed: none where nothing is held.
 pub fn close(sitting: Sitting, tree: &mut [u64], out: &mut [u8]) -> usize
     ensures { Closes sitting tree.old tree.new out.old result out.new }
 {

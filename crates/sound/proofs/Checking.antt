@@ -9,6 +9,7 @@ use lib.ListN.{length, take, drop}
 use Rattle.record.specs.Words.{records}
 use Rattle.record.specs.Many.{every}
 use Rattle.path.specs.Path.{up_from}
+use Rattle.path.specs.Layout.{bucket_words}
 use Rattle.gather.proofs.ShownLaws.{fewer, whole-records}
 use Rattle.sound.specs.Fetched.{shown_in}
 
@@ -47,10 +48,14 @@ module _ (z : ℕ) (path : List ℕ) (h d : ℕ) (room : 4 * (h * (z + 1)) ≤ l
   pub level-room : 4 * ((d - 1 + 1) * (z + 1)) ≤ length path
   level-room = fewer z (d - 1 + 1) h room (omega arith)
 
-  -- its bucket's part, which begins at the word `start`
-  pub bucket-shown : (start : ℕ) → start ≡ (d - 1) * (4 * (z + 1))
-      → records (take (start + 4 * (z + 1) - start) (drop start path)) ≡ (shown_in z path d).least ∷ (shown_in z path d).slots
-  bucket-shown start e =
-      let n : start + 4 * (z + 1) - start ≡ 4 * (z + 1) = omega arith in
-      let a : start ≡ 4 * ((d - 1) * (z + 1)) = omega arith in
-      rw (n, a) (whole-records z path (d - 1) level-room)
+  -- its bucket's part, of so many words
+  pub bucket-shown : (size : ℕ) → size ≡ bucket_words z
+      → records (take ((d - 1) * size + size - (d - 1) * size) (drop ((d - 1) * size) path)) ≡ (shown_in z path d).least ∷ (shown_in z path d).slots
+  bucket-shown size e =
+      let n : (d - 1) * bucket_words z + bucket_words z - (d - 1) * bucket_words z ≡ bucket_words z = omega arith in
+      let a : (d - 1) * bucket_words z ≡ 4 * ((d - 1) * (z + 1)) = omega arith in
+      rw (e, n, a) (whole-records z path (d - 1) level-room)
+
+  -- and it lies within the path's
+  pub part_within : (size : ℕ) → size ≡ bucket_words z → (d - 1) * size + size ≤ length path
+  part_within size e = rw e (omega (arith, level-room))

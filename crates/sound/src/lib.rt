@@ -13,7 +13,7 @@ ghost use Rattle.sound.specs.Sound.{sound, path_sound, siblings_sound, all_sound
 ghost use Rattle.sound.specs.Fetched.{shown_in, beside_in, fetched_in};
 ghost use Rattle.sound.specs.Room.{Room};
 
-use path::{Sizes, sibling};
+use path::{Sizes, bucket_words, sibling};
 use record::{Bucket, Leaf, RECORD_WORDS, Record, Rule};
 
 // Whether the record may stand in this bucket of this level.
@@ -40,11 +40,12 @@ fn bucket_sound(part: &[u64], sizes: Sizes, rule: Rule, level: u64, bucket: Buck
 }
 
 // The path's buckets, level by level.
+#[tactic(auto, using(crate::proofs::Checking::part_within))]
 fn path_sound(path: &[u64], sizes: Sizes, leaf: Leaf, rule: Rule) -> bool
     requires { (Room sizes leaf path.now) × (rule.leaves ≡ 2 ^ sizes.h) }
     ensures { result ≡ path_sound sizes.h leaf (shown_in sizes.z path.now) rule }
 {
-    let size = RECORD_WORDS * (sizes.z as usize + 1);
+    let size = bucket_words(sizes.z);
     for level in 1..=sizes.h {
         let start = (level as usize - 1) * size;
         let bucket = sizes.bucket_at(leaf, level);

@@ -9,8 +9,6 @@ use Rattle.refusal.proofs.Reason.number.Kinds as reason-number-kinds
 use Rattle.refusal.proofs.Reason.number.Reads as reason-number
 use Rattle.refusal.proofs.number_of.Kinds as refusal-number-kinds
 use Rattle.refusal.proofs.number_of.Reads as refusal-number
-use Rattle.copies.proofs.bucket_words.Kinds as bucket-words-kinds
-use Rattle.copies.proofs.bucket_words.Reads as bucket-words
 use Rattle.copies.proofs.tree_words.Kinds as tree-words-kinds
 use Rattle.copies.proofs.tree_words.Reads as tree-words
 use Rattle.copies.proofs.fill_dummies.Kinds as fill-dummies-kinds
@@ -25,11 +23,6 @@ use Rattle.rack.proofs.fetch.Kinds as fetch-kinds
 use Rattle.rack.proofs.fetch.Reads as fetch
 use Rattle.rack.proofs.store.Kinds as store-kinds
 use Rattle.rack.proofs.store.Reads as store
-
-pub one-bucket-words : Determines 0 bucket-words-kinds.ps bucket-words-kinds.r bucket-words.Asked bucket-words.Learnt
-one-bucket-words =
-    one-answer 0 bucket-words-kinds.ps bucket-words-kinds.r bucket-words.Asked bucket-words.Learnt _ _
-    (λ κs a ok x xs f p. (p, refl))
 
 pub one-tree-words : Determines 0 tree-words-kinds.ps tree-words-kinds.r tree-words.Asked tree-words.Learnt
 one-tree-words =

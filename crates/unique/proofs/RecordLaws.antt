@@ -27,6 +27,8 @@ use Rattle.record.proofs.copy_words.Kinds as copy-words-kinds
 use Rattle.record.proofs.copy_words.Reads as copy-words
 use Rattle.path.proofs.leaves.Kinds as leaves-kinds
 use Rattle.path.proofs.leaves.Reads as leaves
+use Rattle.path.proofs.bucket_words.Kinds as bucket-words-kinds
+use Rattle.path.proofs.bucket_words.Reads as bucket-words
 use Rattle.path.proofs.tree_in_range.Kinds as tree-in-range-kinds
 use Rattle.path.proofs.tree_in_range.Reads as tree-in-range
 use Rattle.path.proofs.sizes.Sizes.in_range.Kinds as in-range-kinds
@@ -106,6 +108,11 @@ one-copy-words =
 pub one-leaves : Determines 0 leaves-kinds.ps leaves-kinds.r leaves.Asked leaves.Learnt
 one-leaves =
     one-answer 0 leaves-kinds.ps leaves-kinds.r leaves.Asked leaves.Learnt _ _
+    (λ κs a ok x xs f p. (p, refl))
+
+pub one-bucket-words : Determines 0 bucket-words-kinds.ps bucket-words-kinds.r bucket-words.Asked bucket-words.Learnt
+one-bucket-words =
+    one-answer 0 bucket-words-kinds.ps bucket-words-kinds.r bucket-words.Asked bucket-words.Learnt _ _
     (λ κs a ok x xs f p. (p, refl))
 
 pub one-tree-in-range : Determines 0 tree-in-range-kinds.ps tree-in-range-kinds.r tree-in-range.Asked tree-in-range.Learnt

@@ -3,21 +3,54 @@
 use Prim.Native.Nat.{ℕ, zero, suc, ◌+◌, ◌*◌, ◌-◌, ◌/◌, ◌^◌, ◌≤◌, ◌<◌}
 use mathlib.Core.Bool.{Bool, true, false, cond, not, ◌&&◌, and-false}
 use mathlib.Core.List.{List, []}
-use mathlib.Core.Path.{◌≡◌, refl, ap, ◌∙◌, fun_ext}
+use mathlib.Core.Path.{◌≡◌, refl, sym, ap, ◌∙◌, fun_ext}
 use native.Mathlib.Nat.{mul-le-mul_left}
 use native.Mathlib.Numerals.{add-one}
+use native.Mathlib.Decide.{dec_lt}
 use native.Mathlib.Omega.{arith}
 use lib.Dec.{eqb, ltb}
 use lib.ListN.{length, set, get_or, drop, length-set, drop_of_length-le}
-use borrow.Author.Tests.{lt-ltb, le-ltb, eq-eqb, ne_eqb}
+use borrow.Author.Tests.{lt-ltb, le-ltb}
+use Rattle.std.specs.Prelude.{Option, Some, None}
+use Rattle.std.specs.Option.{MatchOption, is_some}
+use Rattle.std.proofs.lemmas.Option.{none-some, same_Some}
 use Rattle.record.specs.declared.Leaf.{Leaf}
 use Rattle.record.specs.declared.Record.{Record}
 use Rattle.record.specs.Standing.{dummy, is_dummy}
 use Rattle.record.specs.Words.{record_at, written, records}
 use Rattle.record.proofs.WordsLaws.{records-count, records-next, length-written, records-at, records-written}
 use Rattle.path.proofs.PathLaws.{holds-by-shift}
-use Rattle.way.specs.Evict.{seek, fits, moved_to, pull, pulls, evict_up, evict}
+use Rattle.way.specs.Evict.{seek, placed, fits, moved_to, pull, pulls, evict_up, evict}
 use Rattle.way.proofs.WayLaws.{level_before}
+
+-- ---- which place was found, or none
+module _ (n i : ℕ) where
+  placed-at : i < n → placed n i ≡ Some i
+  unfolding placed
+  placed-at l = rw (lt-ltb i n l)
+
+  placed-none : n ≤ i → placed n i ≡ None
+  unfolding placed
+  placed-none l = rw (le-ltb i n l)
+
+  pub placed-some : is_some (placed n i) ≡ ltb i n
+  unfolding placed
+  placed-some = elim (dec_lt i n) [
+    | yes l ↦ rw (lt-ltb i n l)
+    | no h ↦ rw (le-ltb i n (omega arith))
+  ]
+
+  pub placed-is : (k : ℕ) → Some k ≡ placed n i → (i ≡ k) × (k < n)
+  placed-is k e = elim (dec_lt i n) [
+    | yes l ↦ let s = same_Some k i (e ∙ placed-at l) in (sym s, omega arith)
+    | no h ↦ absurd (none-some k (sym (e ∙ placed-none (omega arith))))
+  ]
+
+  pub placed_out : None ≡ placed n i → n ≤ i
+  placed_out e = elim (dec_lt i n) [
+    | yes l ↦ absurd (none-some i (e ∙ placed-at l))
+    | no h ↦ omega arith
+  ]
 
 -- ---- a search among the first n places, of which the first i have been passed
 seek-none : (f : Record → Bool) (n : ℕ) → seek f n [] ≡ n
@@ -25,20 +58,20 @@ unfolding seek
 seek-none f zero = refl
 seek-none f (suc n) = refl
 
-abbrev pub seek_from : (Record → Bool) → ℕ → List ℕ → ℕ → ℕ
+abbrev seek_from : (Record → Bool) → ℕ → List ℕ → ℕ → ℕ
 seek_from f n w i = i + seek f (n - i) (drop i (records w))
 
 module _ (f : Record → Bool) (n : ℕ) (w : List ℕ) where
-  pub seek-starts : seek f n (records w) ≡ seek_from f n w 0
+  seek-starts : seek f n (records w) ≡ seek_from f n w 0
   seek-starts = let e : n - 0 ≡ n = omega arith in rw e (omega arith)
 
   module _ (i : ℕ) where
-    pub seek-ends : n ≤ i → seek_from f n w i ≡ i
+    seek-ends : n ≤ i → seek_from f n w i ≡ i
     unfolding seek
     seek-ends l = let e : n - i ≡ 0 = omega arith in rw e (omega arith)
 
     -- past the last record there is none to find
-    pub seek-past : i ≤ n → length w / 4 ≤ i → seek_from f n w i ≡ n
+    seek-past : i ≤ n → length w / 4 ≤ i → seek_from f n w i ≡ n
     seek-past l h = rw (drop_of_length-le (records w) {i = i} (omega (arith, records-count w)), seek-none f (n - i)) (omega arith)
 
     module _ (l : i < n) (h : 4 * i + 4 ≤ length w) where
@@ -48,28 +81,44 @@ module _ (f : Record → Bool) (n : ℕ) (w : List ℕ) where
       unfolding seek
       next = let e : n - i ≡ suc (n - (i + 1)) = omega arith in rw (e, records-next w i (omega arith))
 
-      pub seek_found : f (record_at w i) ≡ true → seek_from f n w i ≡ i
+      seek_found : f (record_at w i) ≡ true → seek_from f n w i ≡ i
       seek_found t = rw (next, t) (omega arith)
 
-      pub seek-turns : f (record_at w i) ≡ false → seek_from f n w i ≡ seek_from f n w (i + 1)
+      seek-turns : f (record_at w i) ≡ false → seek_from f n w i ≡ seek_from f n w (i + 1)
       seek-turns t = rw (next, t) (omega arith)
+
+      found-at : seek f n (records w) ≡ seek_from f n w i → f (record_at w i) ≡ true → Some i ≡ placed n (seek f n (records w))
+      found-at s t = sym (rw (s ∙ seek_found t) (placed-at n i l))
+
+    -- no place is left, or none that has a record
+    found_none : n ≤ i → seek f n (records w) ≡ seek_from f n w i → None ≡ placed n (seek f n (records w))
+    found_none h s = sym (placed-none n _ (omega (arith, s, seek-ends h)))
+
+    found_past : i ≤ n → length w / 4 ≤ i → seek f n (records w) ≡ seek_from f n w i → None ≡ placed n (seek f n (records w))
+    found_past l h s = sym (placed-none n _ (omega (arith, s, seek-past l h)))
+
+  passed : (i : ℕ) → i ≤ n → 4 * i ≤ length w → ((k : ℕ) → 0 ≤ k → k < i → f (record_at w k) ≡ false)
+      → seek f n (records w) ≡ seek_from f n w i
+  passed zero l h free = seek-starts
+  passed (suc i) l h free =
+      rw (add-one i) at
+      (passed i (omega arith) (omega arith) (λ k a b. free k a (omega arith)) ∙ seek-turns i (omega arith) (omega arith) (free i (omega arith) (omega arith)))
+
+  -- what `find` tells of the places 0 .. m - 1, which are all that have a record among the first n
+  module _ (m : ℕ) (fits : m ≤ n) (there : m ≤ length w / 4) (all : (m < n → length w / 4 ≤ m)) where
+    pub first-placed : (r : Option ℕ)
+        → MatchOption r ((k : ℕ) → 0 ≤ k → k < m → f (record_at w k) ≡ false)
+        (λ i. (0 ≤ i) × (i < m) × (f (record_at w i) ≡ true) × ((k : ℕ) → 0 ≤ k → k < i → f (record_at w k) ≡ false))
+        → r ≡ placed n (seek f n (records w))
+    first-placed None h = elim (dec_lt m n) [
+      | yes less ↦ found_past m (omega arith) (all less) (passed m (omega arith) (omega arith) h)
+      | no more ↦ found_none m (omega arith) (passed m (omega arith) (omega arith) h)
+    ]
+    first-placed (Some i) h = found-at i (omega (arith, h.1)) (omega (arith, h.1)) (passed i (omega (arith, h.1)) (omega (arith, h.1)) h.3) h.2
 
 -- ---- what may move, as the code tests it: not the dummy, and a label that is `want` after `below` halvings
 unfoldable pub agrees : ℕ → ℕ → Record → Bool
 agrees below want r = not (is_dummy r) && eqb (r.label.0 / 2 ^ below) want
-
-module _ (below want : ℕ) (r : Record) where
-  pub agrees-dummy : is_dummy r ≡ true → agrees below want r ≡ false
-  unfolding agrees
-  agrees-dummy e = rw e
-
-  pub agrees-own : is_dummy r ≡ false → r.label.0 / 2 ^ below ≡ want → agrees below want r ≡ true
-  unfolding agrees
-  agrees-own e s = rw (e, eq-eqb _ _ s)
-
-  pub agrees-other : (r.label.0 / 2 ^ below ≡ want → ⊥) → agrees below want r ≡ false
-  unfolding agrees
-  agrees-other s = rw (ne_eqb _ _ s, and-false)
 
 pub agrees-fits : (h : ℕ) (q : Leaf) (d : ℕ) → d ≤ h → agrees (h - d) (q.0 / 2 ^ (h - d)) ≡ fits h q d
 unfolding agrees fits
@@ -81,17 +130,18 @@ module _ (f : Record → Bool) (lo place : ℕ) (w : List ℕ) (h : 4 * place + 
   unfolding pull
   pull-real e = rw (records-at w place dummy h, e)
 
-  pub pull-none : (i : ℕ) → i ≡ seek f lo (records w) → lo ≤ i → records w ≡ pull f lo place (records w)
+  pub pull-none : None ≡ placed lo (seek f lo (records w)) → records w ≡ pull f lo place (records w)
   unfolding pull
-  pull-none i s l = rw (← s, le-ltb _ _ l, and-false)
+  pull-none e = rw (le-ltb _ _ (placed_out lo _ e), and-false)
 
-  pub pull-moves : (i : ℕ) → is_dummy (record_at w place) ≡ true → i ≡ seek f lo (records w) → i < lo → 4 * lo ≤ length w
+  pub pull-moves : (i : ℕ) → is_dummy (record_at w place) ≡ true → Some i ≡ placed lo (seek f lo (records w)) → 4 * lo ≤ length w
       → records (written (written w place (record_at w i)) i dummy) ≡ pull f lo place (records w)
   unfolding pull moved_to
-  pull-moves i e s l room =
+  pull-moves i e p room =
+      let (s, l) = placed-is lo _ i p in
       let there : 4 * i + 4 ≤ length (written w place (record_at w i)) = omega (arith, length-written w place (record_at w i)) in
       let stores = records-written _ i dummy there ∙ ap (λ ws. set ws i dummy) (records-written w place (record_at w i) h) in
-      stores ∙ rw (← s, records-at w place dummy h, e, lt-ltb _ _ l, records-at w i dummy (omega arith))
+      stores ∙ rw (s, records-at w place dummy h, e, lt-ltb i lo l, records-at w i dummy (omega arith))
 
 -- ---- the slots of a level: one more is filled
 pub slot-next : (f : Record → Bool) (lo k : ℕ) (now after old : List ℕ) → records now ≡ pulls f lo k (records old)

@@ -9,28 +9,24 @@
 
 ghost use Rattle.std.specs.Prelude.{◌≡◌, ◌+◌, ◌*◌, ◌≤◌, ◌<◌, length};
 ghost use Rattle.record.specs.Words.{records};
-ghost use Rattle.way.specs.Evict.{seek, fits, pull, pulls, evict};
+ghost use Rattle.way.specs.Evict.{seek, placed, fits, pull, pulls, evict};
 
 use path::Sizes;
 use record::{Leaf, Record};
 
-// The first of the first lo places whose record may move to this level; lo if there is none. This is the inner loop of
+// The first of the first lo places whose record may move to this level; `None` if there is none. This is the inner loop of
 // all the work: two paths hold one bucket when their leaves agree after one shift, which is the same for every record,
 // and whether a record is the dummy is asked only of those that agree.
-// Kept: lo for none, and no Option: `seek`, by which the rule of eviction is told, has that number.
-fn first_fit(w: &[u64], lo: usize, sizes: Sizes, leaf: Leaf, level: u64) -> usize
+fn first_fit(w: &[u64], lo: usize, sizes: Sizes, leaf: Leaf, level: u64) -> Option<usize>
     requires { (4 * lo ≤ length w.now) × ((level ≤ sizes.h) × (sizes.h < 64)) }
-    ensures { result ≡ seek (fits sizes.h leaf level) lo (records w.now) }
+    ensures { result ≡ placed lo (seek (fits sizes.h leaf level) lo (records w.now)) }
 {
     let below = sizes.h - level;
     let want = leaf.0 >> below;
-    for i in 0..lo {
+    (0..lo).find(|&i| {
         let found = Record::read(w, i);
-        if found.label.0 >> below == want && !found.is_dummy() {
-            return i;
-        }
-    }
-    lo
+        found.label.0 >> below == want && !found.is_dummy()
+    })
 }
 
 // A dummy slot takes the first record that fits from the places before lo; any other slot is left as it is.
@@ -42,8 +38,7 @@ fn pull(w: &mut [u64], lo: usize, place: usize, sizes: Sizes, leaf: Leaf, level:
     if !Record::read(w, place).is_dummy() {
         return;
     }
-    let from = first_fit(w, lo, sizes, leaf, level);
-    if from < lo {
+    if let Some(from) = first_fit(w, lo, sizes, leaf, level) {
         let found = Record::read(w, from);
         found.write(w, place);
         Record::DUMMY.write(w, from);

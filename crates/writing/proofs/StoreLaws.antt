@@ -21,26 +21,11 @@ pub record Storing (size h : ℕ) (from old now : List ℕ) (moved start i : ℕ
   pub counted : moved ≡ 2 * start
   pub done : now ≡ take start from ++ drop start old
 
--- the next bucket lies within the path, its part within the words, and its count fits
-pub record Next (size : ℕ) (from now : List ℕ) (moved start : ℕ) : Type 0 where
-  pub bucket : start + size ≤ length from
-  pub part : start + size ≤ length now
-  pub twice : moved + 2 * size ≤ 2 * length from
-
 module _ (size h : ℕ) (from old : List ℕ) where
   pub storing-starts : Storing size h from old old 0 0 0
   storing-starts = record { room = refl; turns = omega arith; place = omega arith; counted = omega arith; done = refl }
 
   module _ (all : length from ≡ h * size) (now : List ℕ) (moved start i : ℕ) (n : Storing size h from old now moved start i) where
-    pub next-bucket : length from ≤ length old → i < h → Next size from now moved start
-    next-bucket fits l =
-        let more = rw suc-mul at (mul-le-mul_right size l) in
-        record {
-          bucket = omega (arith, n.place);
-          part = omega (arith, n.place, n.room);
-          twice = omega (arith, n.place, n.counted);
-        }
-
     pub storing-turns : (part : List ℕ) → i < h → length part ≡ length (mid_of start (start + size - start) now)
         → part ≡ take (start + size - start) (drop start from)
         → Storing size h from old (put_mid start (start + size - start) now part) (moved + 2 * size) (start + size) (i + 1)
@@ -65,3 +50,9 @@ module _ (size h : ℕ) (from old : List ℕ) where
           words = n.done ∙ rw (end, take_all (length from) from (omega arith));
           counted = n.counted ∙ rw (← eh, ← ez) (omega (arith, all, mul_left_comm h 2 size));
         }
+
+-- the next bucket lies within the path
+pub next_bucket : (size h z i : ℕ) (from : List ℕ) → size ≡ bucket_words z → length from ≡ h * bucket_words z → i < h → i * size + size ≤ length from
+next_bucket size h z i from e all l =
+    let more = rw suc-mul at (mul-le-mul_right size l) in
+    rw (all, ← e) (omega arith)

@@ -3,4 +3,4 @@ use Rattle.root.proofs.Slots.{full-slots}
 use Rattle.root.proofs.all_real.Goals as goal
 
 pub returns : goal.returns
-returns c = rw c.lowest_dummy.ensures (full-slots _ _)
+returns c = full-slots _ _ _ _ c.lowest_dummy.ensures c.is_none.ensures

@@ -1,29 +1,20 @@
--- `lowest_dummy` meets its contract: no place before `place` is the dummy. Assumes nothing.
-use native.Mathlib.Decide.{dec_le}
+-- `lowest_dummy` meets its contract: `find` over the places tells what `seek` does. Assumes nothing.
 use native.Mathlib.Omega.{arith}
-use mathlib.Core.Path.{sym, ap, ◌∙◌}
+use borrow.Author.Rules.{rules}
+use borrow.Author.Tests.{tests}
+use mathlib.Core.Bool.{true, false}
+use mathlib.Core.Path.{◌≡◌}
+use Rattle.std.proofs.lemmas.Iterator.{first_from_Range}
 use Rattle.record.specs.Standing.{is_dummy}
-use Rattle.way.proofs.EvictLaws.{seek-starts, seek-past, seek_found, seek-turns, seek-ends}
+use Rattle.record.specs.Words.{record_at}
+use Rattle.way.proofs.EvictLaws.{first-placed}
 use Rattle.root.proofs.lowest_dummy.Goals as goal
-
-pub loop-place-init : goal.loop-place-init
-loop-place-init c = seek-starts is_dummy _ _
-
-pub returns-then-is_dummy : goal.returns-then-is_dummy
-returns-then-is_dummy c =
-    let t = ap is_dummy (sym c.read.ensures) ∙ sym c.is_dummy.ensures ∙ c.if-is_dummy.true in
-    sym (c.loop-place.invariant ∙ seek_found is_dummy _ _ _ (omega arith) (omega arith) t)
-
-pub loop-place-preserved : goal.loop-place-preserved
-loop-place-preserved c =
-    let t = ap is_dummy (sym c.read.ensures) ∙ sym c.is_dummy.ensures ∙ c.if-is_dummy.false in
-    c.loop-place.invariant ∙ seek-turns is_dummy _ _ _ (omega arith) (omega arith) t
 
 pub returns : goal.returns
 returns c =
     let s = c.args in
-    let place = c.loop-place.place in
-    sym (c.loop-place.invariant ∙ elim (dec_le s.n place) [
-      | yes all ↦ seek-ends is_dummy s.n s.slots.now place all ∙ omega arith
-      | no more ↦ seek-past is_dummy s.n s.slots.now place (omega arith) (omega arith)
-    ])
+    let ws = s.slots.now in
+    first-placed is_dummy s.n ws c.min.result (omega (arith, c.min.ensures)) (omega (arith, c.min.ensures)) (λ l. omega (arith, c.min.ensures)) _
+    (first_from_Range _ _ _ _ (λ i. is_dummy (record_at ws i) ≡ true) (λ i. is_dummy (record_at ws i) ≡ false) c.find.ensures.ran
+    (λ x q k. search (rules, tests))
+    (λ x q k. (search rules, search (rules, tests))))

@@ -8,9 +8,9 @@ loop-init c = storing-starts _ _ _ _
 
 pub loop-preserved : goal.loop-preserved
 loop-preserved c =
-    storing-turns _ _ _ _ c.requires.buckets _ _ _ _ c.loop.invariant _ c.loop-test.true
+    storing-turns _ _ _ _ (rw c.bucket_words-size.ensures c.requires.buckets) _ _ _ _ c.loop.invariant _ c.loop-test.true
     c.write_part.auto.part c.write_part.ensures
 
 pub returns : goal.returns
 returns c =
-    storing-ends _ _ _ _ c.requires.buckets _ _ _ _ c.loop.invariant c.args.sizes c.loop-test.false refl refl
+    storing-ends _ _ _ _ (rw c.bucket_words-size.ensures c.requires.buckets) _ _ _ _ c.loop.invariant c.args.sizes c.loop-test.false refl c.bucket_words-size.ensures

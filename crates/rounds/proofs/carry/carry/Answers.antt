@@ -10,12 +10,12 @@ returns-in-Err c =
     let s = c.args in
     fetch-refuses s.card (holding_list s.begun s.tree.now s.list.now s.n) _ _ c.fetch-fetched.ensures _ c.in-Err.is _ (rw c.number.ensures at c.refuse.ensures)
 
-pub returns-then-said-ne0 : goal.returns-then-said-ne0
-returns-then-said-ne0 c =
+pub returns-in-Refused : goal.returns-in-Refused
+returns-in-Refused c =
     let s = c.args in
-    finish-refuses s.card (holding_list s.begun s.tree.now s.list.now s.n) _ _ c.fetch-fetched.ensures (ap refusal_in c.in_default.is) _ _ c.finish-done.ensures _ c.number_of-said.ensures c.if-said-ne0.true _ c.refuse-then-said-ne0.ensures
+    finish-refuses s.card (holding_list s.begun s.tree.now s.list.now s.n) _ _ c.fetch-fetched.ensures (ap refusal_in c.in_default.is) _ _ c.finish-done.ensures _ c.in-Refused.is _ c.refuse-in-Refused.ensures
 
 pub returns : goal.returns
 returns c =
     let s = c.args in
-    all_done_lem s.card (holding_list s.begun s.tree.now s.list.now s.n) _ _ c.fetch-fetched.ensures (ap refusal_in c.in_default.is) _ _ c.finish-done.ensures _ c.number_of-said.ensures c.if-said-ne0.false _ _ c.store.ensures
+    all_done_lem s.card (holding_list s.begun s.tree.now s.list.now s.n) _ _ c.fetch-fetched.ensures (ap refusal_in c.in_default.is) _ _ c.finish-done.ensures c.in_default-answer.not-Refused _ _ c.store.ensures
