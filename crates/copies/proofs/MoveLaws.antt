@@ -27,11 +27,11 @@ unfoldable pub parts_from : ℕ → List ℕ → ℕ → ℕ → List ℕ → Li
 parts_from z tree whole i [] = []
 parts_from z tree whole i (n ∷ ns) = part_of z (part_words z whole i) tree (bucket n) ++ parts_from z tree whole (i + 1) ns
 
-whole_part : (z whole i : ℕ) → i < whole → part_words z whole i ≡ bucket_words z
+pub whole_part : (z whole i : ℕ) → i < whole → part_words z whole i ≡ bucket_words z
 unfolding part_words
 whole_part z whole i l = rw (lt-ltb i whole l)
 
-least-part : (z whole i : ℕ) → whole ≤ i → part_words z whole i ≡ record_words
+pub least-part : (z whole i : ℕ) → whole ≤ i → part_words z whole i ≡ record_words
 unfolding part_words
 least-part z whole i l = rw (le-ltb i whole l)
 

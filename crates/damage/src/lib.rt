@@ -44,7 +44,7 @@ pub fn path_damaged(
     !all_sound(path, sibs, sizes, leaf, rule, PATH_SIBLINGS)
         || stamps::stamp_twice(slots)
         || !leasts_true(path, sibs, sizes, leaf)
-        || least != least::least_over(slots, 0, sizes.r as usize, kids)
+        || !least.same(least::least_over(slots, 0, sizes.r as usize, kids))
 }
 
 // For crates above: Damaged for an Insert's two paths, whose siblings were fetched from level 2 on. `all` is a scratch with
@@ -75,5 +75,5 @@ pub fn pair_damaged(
         || stamps::stamp_twice(all)
         || !leasts_true(one, one_sibs, sizes, first)
         || !leasts_true(two, two_sibs, sizes, second)
-        || least != least::least_over(all, 0, sizes.r as usize, kids)
+        || !least.same(least::least_over(all, 0, sizes.r as usize, kids))
 }

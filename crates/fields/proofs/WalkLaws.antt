@@ -1,17 +1,16 @@
 -- A line walked field by field: where the loop begins, what a turn does, and what it comes to. Assumes nothing.
 use Prim.Native.Nat.{ℕ, ◌+◌, ◌-◌, ◌≤◌, ◌<◌}
-use mathlib.Core.List.{List, ◌∷◌}
 use mathlib.Core.Bool.{true, false}
+use mathlib.Core.List.{List, ◌∷◌}
 use mathlib.Core.Path.{◌≡◌, refl, ◌∙◌}
 use native.Mathlib.Omega.{arith}
 use lib.Dec.{leb}
-use lib.ListN.{length, take, drop, set, replicate, length-set, length-replicate, length-drop}
+use lib.ListN.{length, take, drop, set, length-set, length-drop}
 use borrow.Author.Tests.{leb-true, leb-false}
 use Rattle.std.specs.Prelude.{Some, None}
-use Rattle.std.specs.Bool.{then_some}
 use Rattle.decimal.specs.Field.{reads}
 use Rattle.fields.specs.Pieces.{before}
-use Rattle.fields.specs.Behind.{behind, numbered}
+use Rattle.fields.specs.Behind.{behind, Numbered}
 use Rattle.fields.proofs.PiecesLaws.{before-fits, before_head, behind-none, behind-next}
 use Rattle.fields.proofs.NumbersLaws.{Gathering, gathering-starts, gathering-turns, no_number, too_few, too_many, just-these}
 
@@ -24,51 +23,46 @@ module _ (line : List ℕ) (start end : ℕ) (e : end ≡ start + length (before
       let n : end - start ≡ length (before 32 (drop start line)) = omega arith in
       rw n (before_head 32 (drop start line))
 
--- the fields behind `from` up to `at` are the first k of `count` numbers
-pub record Walking (line : List ℕ) (from count at k : ℕ) (out : List ℕ) : Type 0 where
-  pub place : k ≤ count
-  pub room : length out ≡ count
-  pub gathered : Gathering (behind (drop from line)) (behind (drop at line)) k out
+-- the fields behind `from` up to `at` are the first k numbers
+pub record Walking (line : List ℕ) (from : ℕ) (old : List ℕ) (at k : ℕ) (out : List ℕ) : Type 0 where
+  pub place : k ≤ length out
+  pub room : length out ≡ length old
+  pub gathered : Gathering (behind (drop from line)) (behind (drop at line)) old k out
 
-pub walking-starts : (line : List ℕ) (from count : ℕ) → Walking line from count from 0 (replicate count 0)
-walking-starts line from count =
-    record {
-      place = omega arith;
-      room = length-replicate count 0;
-      gathered = gathering-starts (behind (drop from line)) (replicate count 0);
-    }
+pub walking-starts : (line : List ℕ) (from : ℕ) (old : List ℕ) → Walking line from old from 0 old
+walking-starts line from old =
+    record { place = omega arith; room = refl; gathered = gathering-starts (behind (drop from line)) old }
 
-module _ (line : List ℕ) (from count at k : ℕ) (out : List ℕ) (w : Walking line from count at k out) where
+module _ (line : List ℕ) (from : ℕ) (old : List ℕ) (at k : ℕ) (out : List ℕ) (w : Walking line from old at k out) where
   abbrev fields : List (List ℕ)
   fields = behind (drop from line)
 
-  pub walk-short : length line ≤ at → k < count → None ≡ numbered count fields
-  walk-short l m = too_few fields k out (rw (behind-none line at l) at w.gathered) count m
+  pub walk-short : length line ≤ at → k < length out → Numbered fields old false out
+  walk-short l m = too_few fields old k out w.room (rw (behind-none line at l) at w.gathered) m
 
   module _ (l : at < length line) where
     next :
-        Gathering fields (before 32 (drop (at + 1) line) ∷ behind (drop (at + 1 + length (before 32 (drop (at + 1) line))) line)) k out
+        Gathering fields (before 32 (drop (at + 1) line) ∷ behind (drop (at + 1 + length (before 32 (drop (at + 1) line))) line)) old k out
     next = rw (behind-next line at l) at w.gathered
 
-    module _ (end : ℕ) (e : end ≡ at + 1 + length (before 32 (drop (at + 1) line))) where
-      pub walk_refused : reads (take (end - (at + 1)) (drop (at + 1) line)) ≡ None → None ≡ numbered count fields
-      walk_refused r = no_number fields k out _ _ next count (rw (field-part line (at + 1) end e) at r)
+    module _ (end : ℕ) (e : end ≡ at + 1 + length (before 32 (drop (at + 1) line))) (m : k < length out) where
+      pub walk_refused : reads (take (end - (at + 1)) (drop (at + 1) line)) ≡ None → Numbered fields old false out
+      walk_refused r = no_number fields old k out _ _ next m (rw (field-part line (at + 1) end e) at r)
 
-      pub walk-turns :
-          k < count → (n : ℕ) → reads (take (end - (at + 1)) (drop (at + 1) line)) ≡ Some n
-          → Walking line from count end (k + 1) (set out k n)
-      walk-turns m n r =
-          let more = gathering-turns fields k out _ _ next (omega (arith, w.room)) n (rw (field-part line (at + 1) end e) at r) in
+      pub walk-turns : (n : ℕ) → reads (take (end - (at + 1)) (drop (at + 1) line)) ≡ Some n → Walking line from old end (k + 1) (set out k n)
+      walk-turns n r =
+          let more = gathering-turns fields old k out _ _ next m n (rw (field-part line (at + 1) end e) at r) in
+          let rest : Gathering fields (behind (drop end line)) old (k + 1) (set out k n) = rw e more in
           record {
-            place = omega arith;
+            place = rw length-set (omega arith);
             room = length-set out k n ∙ w.room;
-            gathered = rw e more;
+            gathered = rest;
           }
 
-  pub walk_ends : count ≤ k → then_some (leb (length line) at) out ≡ numbered count fields
-  walk_ends m = (elim (leb (length line) at) as (λ t. leb (length line) at ≡ t → then_some t out ≡ numbered count fields) [
+  pub walk_ends : length out ≤ k → Numbered fields old (leb (length line) at) out
+  walk_ends l = (elim (leb (length line) at) as (λ t. leb (length line) at ≡ t → Numbered fields old t out) [
     | true ↦ λ e.
         let g = rw (behind-none line at (leb-true _ _ e)) at w.gathered in
-        just-these fields k out g count (omega (arith, w.place)) w.room
-    | false ↦ λ e. too_many fields k out _ _ (next (leb-false _ _ e)) count m
+        just-these fields old k out w.room g (omega (arith, w.place))
+    | false ↦ λ e. too_many fields old k out w.room _ _ (next (leb-false _ _ e)) l
   ]) refl

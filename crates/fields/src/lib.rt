@@ -3,7 +3,7 @@
 
 ghost use Rattle.std.specs.Prelude.{◌≡◌, ◌+◌, length, drop};
 ghost use Rattle.fields.specs.Pieces.{before, same_bytes};
-ghost use Rattle.fields.specs.Behind.{behind, numbered};
+ghost use Rattle.fields.specs.Behind.{behind, numbered, Numbered};
 
 // Parts the fields of a line.
 pub const SPACE: u8 = b' ';
@@ -23,19 +23,29 @@ pub fn same(a: &[u8], b: &[u8]) -> bool
     a == b
 }
 
+// The numbers behind a field that ends at `from`: whether there are just as many as `out` has places, and these.
+pub fn read_numbers(line: &[u8], from: usize, out: &mut [u64]) -> bool
+    ensures { Numbered (behind (drop from line.now)) out.old result out.new }
+{
+    let mut at = from;
+    for place in out.iter_mut() {
+        if at >= line.len() {
+            return false;
+        }
+        let start = at + 1;
+        at = end_of(line, start, SPACE);
+        let Some(n) = decimal::read(&line[start..at]) else {
+            return false;
+        };
+        *place = n;
+    }
+    at >= line.len()
+}
+
 // The numbers behind a field that ends at `from`, if the fields there are numbers and just this many.
 pub fn numbers<const N: usize>(line: &[u8], from: usize) -> Option<[u64; N]>
     ensures { result ≡ numbered N (behind (drop from line.now)) }
 {
     let mut found = [0; N];
-    let mut at = from;
-    for place in &mut found {
-        if at >= line.len() {
-            return None;
-        }
-        let start = at + 1;
-        at = end_of(line, start, SPACE);
-        *place = decimal::read(&line[start..at])?;
-    }
-    (at >= line.len()).then_some(found)
+    read_numbers(line, from, &mut found).then_some(found)
 }

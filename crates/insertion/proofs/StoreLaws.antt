@@ -22,13 +22,13 @@ use Rattle.settle.specs.Settled.{Writes}
 use Rattle.insertion.specs.Store.{PairStoreRoom}
 
 -- a path's words are few
-path-few : (s : Sizes) (n : ℕ) → Cut s → n ≡ s.h * bucket_words s.z → n ≤ 384
+pub path-few : (s : Sizes) (n : ℕ) → Cut s → n ≡ s.h * bucket_words s.z → n ≤ 384
 path-few s n cut e =
     let m : s.h * bucket_words s.z ≤ s.h * 24 = mul-le-mul_left s.h (omega (arith, cut.width)) in
     omega (arith, cut.height)
 
 -- and so are the words moved for two paths
-pair-few : (s : Sizes) (n : ℕ) → Cut s → n ≡ 2 * (s.h * (2 * bucket_words s.z)) → n ≤ 1536
+pub pair-few : (s : Sizes) (n : ℕ) → Cut s → n ≡ 2 * (s.h * (2 * bucket_words s.z)) → n ≤ 1536
 pair-few s n cut e =
     let k = path-few s (s.h * bucket_words s.z) cut refl in
     let f : s.h * (2 * bucket_words s.z) ≡ 2 * (s.h * bucket_words s.z) = omega arith in

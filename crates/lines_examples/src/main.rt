@@ -10,6 +10,13 @@ use request::Request;
 use std::io;
 use std::io::Read;
 
+// By the desk's own printing, so that the table tests it too.
+fn show(rt: &impl Print, numbers: &[u64]) -> io::Result<()> {
+    let mut out = [0u8; 128];
+    let n = frames::print_answer(numbers, &mut out);
+    rt.write_all(&out[..n])
+}
+
 fn ask(rt: &impl Print, request: Request) -> io::Result<()> {
     match request {
         Request::Insert {
@@ -18,17 +25,17 @@ fn ask(rt: &impl Print, request: Request) -> io::Result<()> {
             label,
             first,
             second,
-        } => println!(rt; "2 {key} {value} {} {} {}", label.0, first.0, second.0),
-        Request::Extract => println!(rt; "4"),
-        Request::Delete { label, stamp } => println!(rt; "5 {} {}", label.0, stamp.0),
+        } => show(rt, &[2, key, value, label.0, first.0, second.0]),
+        Request::Extract => show(rt, &[4]),
+        Request::Delete { label, stamp } => show(rt, &[5, label.0, stamp.0]),
     }
 }
 
 fn say(rt: &impl Print, line: &[u8]) -> io::Result<()> {
     match lines::read_line(line) {
-        Line::Unreadable => println!(rt; "?"),
-        Line::Size { h, z, r, t } => println!(rt; "1 {h} {z} {r} {t}"),
-        Line::Min => println!(rt; "3"),
+        Line::Unreadable => rt.write_all(b"?\n"),
+        Line::Size { h, z, r, t } => show(rt, &[1, h, z, r, t]),
+        Line::Min => show(rt, &[3]),
         Line::Ask(request) => ask(rt, request),
     }
 }

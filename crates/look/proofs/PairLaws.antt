@@ -6,7 +6,7 @@ use mathlib.Core.Path.{◌≡◌, refl, ap, ◌∙◌}
 use native.Mathlib.Omega.{arith}
 use lib.ListN.{length, take, drop, get_or, length-drop}
 use lib.Seq.{length-take-le}
-use Rattle.std.specs.Prelude.{Result, Ok}
+use Rattle.std.specs.Prelude.{Ok}
 use Rattle.record.specs.declared.Leaf.{Leaf}
 use Rattle.record.specs.declared.Record.{Record}
 use Rattle.record.specs.declared.Rule.{Rule}
@@ -21,10 +21,10 @@ use Rattle.sound.specs.Fetched.{fetched_in, first_fetched, second_fetched}
 use Rattle.damage.specs.Damaged.{pair_damaged}
 use Rattle.damage.proofs.FetchedLaws.{Alike, pair-alike}
 use Rattle.parts.specs.Parts.{parts_for, rule_of}
-use Rattle.settle.specs.declared.Damaged.{Damaged}
 use Rattle.settle.specs.Left.{pair_bad}
 use Rattle.settle.specs.Settled.{unsettled}
 use Rattle.shown.specs.PairShown.{below_first, PairShown}
+use Rattle.look.specs.declared.Looked.{Looked}
 use Rattle.look.specs.Look.{PairLookRoom, PairLooks}
 
 -- the siblings of one of the two paths, level by level
@@ -89,11 +89,16 @@ module _ (s : Sizes) (first second : Leaf) (ws w₀ beside₀ : List ℕ) (room 
     pub pair-looks : (t c : ℕ) (least : Record) (rule : Rule) → rule ≡ rule_of (parts_for s t c least) → (k m : ℕ) (x : Bool) → k ≡ n → m ≡ n
         → x ≡ pair_damaged s.h s.r rule least (fetched_in s.z first (take k ws) one)
         (fetched_in s.z second (take m (drop n ws)) two) (records all)
-        → (out : Result ℕ Damaged) → out ≡ cond x unsettled (Ok moved)
+        → (out : Looked) → out ≡ record { moved = moved; fit = cond x unsettled (Ok tt) }
         → PairLooks (parts_for s t c least) root ws first second w one out
     pair-looks t c least rule told k m x e f v out g =
         let verdict : x ≡ pair_bad (parts_for s t c least) root ws first second =
         rw (← told) (v
         ∙ pair-alike s.h s.r room.sizes.height.0 rule least (records all) _ _ _ _ (lent-first k e) (lent-second m f)
         ∙ ap (pair_damaged s.h s.r rule least (first_fetched s.h s.z first ws) (second_fetched s.h s.z second ws)) shown.slots) in
-        record { way = shown.way; siblings = shown.first; verdict = rw (← verdict, ← shown.counted) g }
+        record {
+          way = shown.way;
+          siblings = shown.first;
+          counted = ap (λ (o : Looked). o.moved) g ∙ shown.counted;
+          verdict = rw (← verdict) (ap (λ (o : Looked). o.fit) g);
+        }

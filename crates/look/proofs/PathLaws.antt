@@ -7,7 +7,7 @@ use mathlib.Core.Path.{◌≡◌, refl, ap, ◌∙◌}
 use native.Mathlib.Omega.{arith}
 use lib.ListN.{length, take}
 use lib.Seq.{length-take-le}
-use Rattle.std.specs.Prelude.{Result, Ok}
+use Rattle.std.specs.Prelude.{Ok}
 use Rattle.record.specs.declared.Leaf.{Leaf}
 use Rattle.record.specs.declared.Record.{Record}
 use Rattle.record.specs.declared.Rule.{Rule}
@@ -21,10 +21,10 @@ use Rattle.sound.specs.Fetched.{fetched_in, path_fetched}
 use Rattle.damage.specs.Damaged.{path_damaged}
 use Rattle.damage.proofs.FetchedLaws.{Alike, path-alike}
 use Rattle.parts.specs.Parts.{parts_for, rule_of}
-use Rattle.settle.specs.declared.Damaged.{Damaged}
 use Rattle.settle.specs.Left.{path_bad}
 use Rattle.settle.specs.Settled.{unsettled}
 use Rattle.shown.specs.PathShown.{PathShown}
+use Rattle.look.specs.declared.Looked.{Looked}
 use Rattle.look.specs.Look.{PathLookRoom, PathLooks}
 
 -- the words of the path's buckets, n, are there, and are long enough for the checks
@@ -56,11 +56,16 @@ module _ (s : Sizes) (q : Leaf) (ws w₀ sibs₀ : List ℕ) (room : PathLookRoo
 
   pub path-looks : (t c : ℕ) (least : Record) (rule : Rule) → rule ≡ rule_of (parts_for s t c least) → (x : Bool)
       → x ≡ path_damaged s.h s.r rule least (fetched_in s.z q (take k ws) sibs) (records w)
-      → (out : Result ℕ Damaged) → out ≡ cond x unsettled (Ok moved)
+      → (out : Looked) → out ≡ record { moved = moved; fit = cond x unsettled (Ok tt) }
       → PathLooks (parts_for s t c least) root ws q w sibs out
   path-looks t c least rule told x v out e =
       let verdict : x ≡ path_bad (parts_for s t c least) root ws q =
       rw (← told) (v
       ∙ path-alike s.h s.r room.sizes.height.0 rule least (records w) _ _ lent
       ∙ ap (path_damaged s.h s.r rule least (path_fetched s.h s.z q ws)) shown.way) in
-      record { way = shown.way; siblings = shown.siblings; verdict = rw (← verdict, ← shown.counted) e }
+      record {
+        way = shown.way;
+        siblings = shown.siblings;
+        counted = ap (λ (o : Looked). o.moved) e ∙ shown.counted;
+        verdict = rw (← verdict) (ap (λ (o : Looked). o.fit) e);
+      }

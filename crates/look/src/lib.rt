@@ -3,6 +3,8 @@
 // Stands on `settle`, `shown`, `damage` and what is below.
 #![tactic(auto)]
 
+ghost use Rattle.std.specs.Prelude.{◌≡◌, cond, Ok};
+ghost use Rattle.settle.specs.Settled.{unsettled};
 ghost use Rattle.look.specs.Look.{PathLookRoom, PathLooks, PairLookRoom, PairLooks};
 
 use parts::Parts;
@@ -10,8 +12,24 @@ use path::ROOT_PLACES;
 use record::{Leaf, RECORD_WORDS, Record};
 use settle::{Damaged, SIBLINGS_MOST, WAYS_MOST, path_words, way_words};
 
-// For crates above: the one path of ExtractMin and Delete. The way is left in `w` and its siblings in `sibs`, for the work;
-// told are the words moved for the siblings.
+// What a look tells: the words moved for the siblings, and whether what was fetched is fit for the work or Damaged.
+#[derive(Clone, Copy)]
+pub struct Looked {
+    pub moved: u64,
+    pub fit: Result<(), Damaged>,
+}
+
+// The words moved are told whether it is Damaged or not.
+fn told(moved: u64, damaged: bool) -> Looked
+    ensures { result ≡ record { moved = moved; fit = cond damaged unsettled (Ok tt) } }
+{
+    Looked {
+        moved,
+        fit: if damaged { Err(Damaged) } else { Ok(()) },
+    }
+}
+
+// For crates above: the one path of ExtractMin and Delete. The way is left in `w` and its siblings in `sibs`, for the work.
 pub fn look_path(
     words: &[u64],
     w: &mut [u64],
@@ -19,14 +37,14 @@ pub fn look_path(
     root: [Record; ROOT_PLACES],
     parts: Parts,
     leaf: Leaf,
-) -> Result<u64, Damaged>
+) -> Looked
     requires { PathLookRoom parts.sizes leaf words.now w.old sibs.old }
     ensures { PathLooks parts root words.now leaf w.new sibs.new result }
 {
     let sizes = parts.sizes;
     let moved = shown::show_path(w, sibs, root, words, sizes);
     let buckets = path_words(sizes);
-    if damage::path_damaged(
+    let path_bad = damage::path_damaged(
         &words[0..buckets],
         sibs,
         w,
@@ -34,15 +52,12 @@ pub fn look_path(
         leaf,
         parts.rule(),
         parts.least,
-    ) {
-        return Err(Damaged);
-    }
-    Ok(moved)
+    );
+    told(moved, path_bad)
 }
 
 // For crates above: Insert's two paths. The first path's way is left in `w` and its siblings in `beside`, for the work; the
-// second path's siblings, and the slots of both paths together, are needed here alone. Told are the words moved for the siblings
-// of both.
+// second path's siblings, and the slots of both paths together, are needed here alone.
 pub fn look_pair(
     words: &[u64],
     w: &mut [u64],
@@ -51,7 +66,7 @@ pub fn look_pair(
     parts: Parts,
     first: Leaf,
     second: Leaf,
-) -> Result<u64, Damaged>
+) -> Looked
     requires { PairLookRoom parts.sizes first second words.now w.old beside.old }
     ensures { PairLooks parts root words.now first second w.new beside.new result }
 {
@@ -66,7 +81,7 @@ pub fn look_pair(
     let moved = shown::show_pair(w, beside, others, all, root, words, sizes);
     let half = path_words(sizes);
     let whole = half + half;
-    if damage::pair_damaged(
+    let pair_bad = damage::pair_damaged(
         &words[0..half],
         &words[half..whole],
         beside,
@@ -77,8 +92,6 @@ pub fn look_pair(
         second,
         parts.rule(),
         parts.least,
-    ) {
-        return Err(Damaged);
-    }
-    Ok(moved)
+    );
+    told(moved, pair_bad)
 }

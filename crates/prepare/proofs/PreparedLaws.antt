@@ -22,12 +22,13 @@ use Rattle.settle.specs.declared.Settled.{Settled}
 use Rattle.settle.specs.Left.{Left, rule_after, path_way, lower_left, upper_left, insertion, bad_left, pair_bad, insertion_damaged}
 use Rattle.settle.specs.Settled.{judged, Prepares}
 use Rattle.settle.proofs.PreparedLaws.{told-damaged, told-done, not-prepared, is-prepared}
+use Rattle.look.specs.declared.Looked.{Looked}
 use Rattle.look.specs.Look.{PairLooks}
 use Rattle.look.proofs.PairLaws.{below_at}
 use Rattle.prepare.specs.Prepared.{PairPrepared}
 
 module _ (p : Parts) (root : List Record) (ws : List ℕ) (first second : Leaf) (new : Record)
-    (w beside : List ℕ) (seen : Result ℕ Damaged) (looked : PairLooks p root ws first second w beside seen) where
+    (w beside : List ℕ) (seen : Looked) (looked : PairLooks p root ws first second w beside seen) where
   abbrev left : Left
   left = insertion p root ws first second new
 
@@ -38,10 +39,10 @@ module _ (p : Parts) (root : List Record) (ws : List ℕ) (first second : Leaf) 
   unfolding insertion_damaged
   told = refl
 
-  pub fetched-bad : (one two : List ℕ) (e : Damaged) (out : Result Settled Damaged) → seen ≡ Err e → out ≡ Err e
+  pub fetched-bad : (one two : List ℕ) (e : Damaged) (out : Result Settled Damaged) → seen.fit ≡ Err e → out ≡ Err e
       → PairPrepared p root ws first second new one two one two out
   fetched-bad one two e out g h =
-      let v = told-damaged _ _ seen looked.verdict e g in
+      let v = told-damaged _ _ seen.fit looked.verdict e g in
       record {
         whole = (not-prepared p damaged left (2 * (p.sizes.h - 1)) (one ++ two) out (told ∙ rw v) h).whole;
         lower = rw v;
@@ -51,7 +52,7 @@ module _ (p : Parts) (root : List Record) (ws : List ℕ) (first second : Leaf) 
   -- what the work leaves
   module _ (high : 1 ≤ p.sizes.h) (w₁ one₀ two₀ one two : List ℕ) (x : Record)
       (work : PairWorked (rule_after p) p.sizes first second new (beside_at (records beside)) (second_siblings p.sizes ws) (records w) (slots_shown p.sizes.z ws p.sizes.h p.sizes.h) w₁ one two x)
-      (next : List Record) (saved : next ≡ take p.sizes.r (records w₁) ++ drop p.sizes.r root) (moved : ℕ) (good : seen ≡ Ok moved) where
+      (next : List Record) (saved : next ≡ take p.sizes.r (records w₁) ++ drop p.sizes.r root) (good : seen.fit ≡ Ok tt) where
     abbrev Same : Type 0
     Same = PairWorked (rule_after p) p.sizes first second new (first_siblings p.sizes ws) (second_siblings p.sizes ws) (path_way p.sizes root ws) (slots_shown p.sizes.z ws p.sizes.h p.sizes.h) w₁ one two x
 
@@ -66,16 +67,16 @@ module _ (p : Parts) (root : List Record) (ws : List ℕ) (first second : Leaf) 
     ready = rw (path-words-append, ← same.first_words, ← same.second_words)
 
     pub left-judged : (out : Result Settled Damaged)
-        → out ≡ judged p (record { root = next; least = x; c = p.c + 1; found = false; moved = moved })
+        → out ≡ judged p (record { root = next; least = x; c = p.c + 1; found = false; moved = seen.moved })
         → PairPrepared p root ws first second new one₀ two₀ one two out
     unfolding insertion
     left-judged out e =
         let k : p.c + 1 ≡ suc p.c = omega arith in
-        let (v, counted) = told-done _ _ seen looked.verdict moved good in
+        let v = (told-done _ _ seen.fit looked.verdict tt good).0 in
         let r : next ≡ left.root = saved ∙ ap (λ (l : List Record). take p.sizes.r l ++ drop p.sizes.r root) same.after in
         let a : Prepares damaged left (2 * (p.sizes.h - 1)) (one ++ two) out =
         is-prepared p damaged left (2 * (p.sizes.h - 1)) (one ++ two) out (pair_bad p root ws first second) _ told v
-        (λ i. record { root = r i; least = same.least i; c = k i; found = false; moved = counted i }) ready e in
+        (λ i. record { root = r i; least = same.least i; c = k i; found = false; moved = looked.counted i }) ready e in
         record { whole = a.whole; lower = rw v same.first_words; upper = rw v same.second_words }
 
 -- the two paths' words together, for the stores

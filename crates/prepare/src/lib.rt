@@ -8,6 +8,7 @@ ghost use Rattle.path.specs.Layout.{bucket_words};
 ghost use Rattle.settle.specs.Room.{InsertionRoom};
 ghost use Rattle.prepare.specs.Prepared.{PairPrepared};
 
+use look::Looked;
 use parts::Parts;
 use path::ROOT_PLACES;
 use record::{Leaf, RECORD_WORDS, Record};
@@ -36,7 +37,8 @@ pub fn prepare_insertion(
     let mut sibs = [0u64; SIBLINGS_MOST];
     let w = &mut way[0..slots];
     let beside = &mut sibs[0..siblings];
-    let moved = look::look_pair(words, w, beside, root, parts, first, second)?;
+    let Looked { moved, fit } = look::look_pair(words, w, beside, root, parts, first, second);
+    fit?;
     let least = pair::work_pair(w, beside, one, two, words, new, sizes, first, second);
     let root = gather::save_root(w, root, sizes.r as usize);
     let next = Settled {

@@ -2,7 +2,7 @@
 ghost use Rattle.std.specs.Prelude.{◌≤◌, length, IfOk};
 
 use crate::ended::Ended;
-use crate::op::{ARGUMENTS, Op};
+use crate::op::{ASKED_WORDS, Op};
 use crate::words;
 use image::CARD_WORDS;
 use told::ANSWER_WORDS;
@@ -16,13 +16,6 @@ const TREE_MOST: usize = 8192;
 // What stands in every word of the answer before a call, so that a word that the call leaves alone is seen in the reply.
 const OLD_ANSWER: u64 = u64::MAX;
 
-// One number of a frame.
-fn number(rt: &impl Input) -> Result<u64, Ended> {
-    let mut word = [0u64; 1];
-    words::read(rt, &mut word)?;
-    Ok(word[0])
-}
-
 // The head of the room, as long as the frame says, and filled from it.
 fn slice<'a>(rt: &impl Input, room: &'a mut [u64], count: u64) -> Result<&'a mut [u64], Ended>
     requires { length room.old ≤ 8192 }
@@ -35,23 +28,24 @@ fn slice<'a>(rt: &impl Input, room: &'a mut [u64], count: u64) -> Result<&'a mut
     Ok(slice)
 }
 
-// Answers one frame.
+// Answers one frame. The rooms stand ahead of all that may end it: one that is made later is filled with zeros twice.
 pub(crate) fn answer_one(rt: &(impl Print + Input)) -> Result<(), Ended> {
-    let op = Op::try_from(number(rt)?)?;
-    let mut arguments = [0u64; ARGUMENTS];
-    words::read(rt, &mut arguments)?;
+    let mut asked = [0u64; ASKED_WORDS];
     let mut card = [0u64; CARD_WORDS];
-    words::read(rt, &mut card)?;
     let mut lengths = [0u64; 3];
-    words::read(rt, &mut lengths)?;
     let mut list_room = [0u64; LIST_MOST];
-    let list = slice(rt, &mut list_room, lengths[0])?;
     let mut words_room = [0u64; WORDS_MOST];
-    let buckets = slice(rt, &mut words_room, lengths[1])?;
     let mut tree_room = [0u64; TREE_MOST];
+    // The op is looked at once its arguments are there too: a frame that is cut short before them is read to its end.
+    words::read(rt, &mut asked)?;
+    let op = Op::try_from(asked[0])?;
+    words::read(rt, &mut card)?;
+    words::read(rt, &mut lengths)?;
+    let list = slice(rt, &mut list_room, lengths[0])?;
+    let buckets = slice(rt, &mut words_room, lengths[1])?;
     let tree = slice(rt, &mut tree_room, lengths[2])?;
     let mut answer = [OLD_ANSWER; ANSWER_WORDS];
-    let number = op.call(&arguments, &mut card, &mut answer, list, buckets, tree);
+    let number = op.call(&asked, &mut card, &mut answer, list, buckets, tree);
     words::write(rt, &[number])?;
     words::write(rt, &answer)?;
     words::write(rt, &card)?;

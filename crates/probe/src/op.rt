@@ -3,8 +3,8 @@ use crate::ended::Ended;
 use image::CARD_WORDS;
 use told::ANSWER_WORDS;
 
-// The arguments of a call: those that it does not use are not looked at.
-pub(crate) const ARGUMENTS: usize = 8;
+// The op and its arguments: those that a call does not use are not looked at.
+pub(crate) const ASKED_WORDS: usize = 9;
 
 #[derive(Clone, Copy)]
 pub(crate) enum Op {
@@ -44,14 +44,14 @@ impl Op {
     // The call on the state that the frame brought: the refusal's number, or 0.
     pub(crate) fn call(
         self,
-        arguments: &[u64; ARGUMENTS],
+        asked: &[u64; ASKED_WORDS],
         card: &mut [u64; CARD_WORDS],
         answer: &mut [u64; ANSWER_WORDS],
         list: &mut [u64],
         words: &mut [u64],
         tree: &mut [u64],
     ) -> u64 {
-        let [a, b, c, d, e, ..] = *arguments;
+        let [_, a, b, c, d, e, ..] = *asked;
         match self {
             Op::Start => driver::nwidarap_start(card, answer, a, b, c, d),
             Op::Insert => driver::nwidarap_insert(card, answer, a, b, c, d, e, list),

@@ -23,6 +23,7 @@ use Rattle.settle.specs.Left.{Left, rule_after, removal, path_bad, bad_left, rem
 use Rattle.settle.specs.Room.{RemovalRoom}
 use Rattle.settle.specs.Settled.{judged, Prepares}
 use Rattle.settle.proofs.PreparedLaws.{told-damaged, told-done, not-prepared, is-prepared}
+use Rattle.look.specs.declared.Looked.{Looked}
 use Rattle.look.specs.Look.{PathLooks}
 
 -- the words are long enough for the stores
@@ -33,7 +34,7 @@ store-room p q ws path room e =
     record { width = room.parts.sizes.width; buckets = e; room = omega arith }
 
 module _ (p : Parts) (root : List Record) (ws : List ℕ) (q : Leaf) (f : Record → Bool)
-    (w sibs : List ℕ) (seen : Result ℕ Damaged) (looked : PathLooks p root ws q w sibs seen) where
+    (w sibs : List ℕ) (seen : Looked) (looked : PathLooks p root ws q w sibs seen) where
   abbrev left : Left
   left = removal p root ws q f
 
@@ -44,24 +45,24 @@ module _ (p : Parts) (root : List Record) (ws : List ℕ) (q : Leaf) (f : Record
   unfolding removal_damaged
   told = refl
 
-  pub fetched-bad : (path : List ℕ) (e : Damaged) (out : Result Settled Damaged) → seen ≡ Err e → out ≡ Err e
+  pub fetched-bad : (path : List ℕ) (e : Damaged) (out : Result Settled Damaged) → seen.fit ≡ Err e → out ≡ Err e
       → Prepares damaged left p.sizes.h path out
   fetched-bad path e out g h =
-      let t = told-damaged _ _ seen looked.verdict e g in
+      let t = told-damaged _ _ seen.fit looked.verdict e g in
       not-prepared p damaged left p.sizes.h path out (told ∙ rw t) h
 
   -- what the work leaves, and its judgement
   pub left-judged : (path : List ℕ) (out : Removed) → PathRemoved (rule_after p) p.sizes q f (records sibs) (records w) root path out
-      → (live moved : ℕ) → live ≡ cond out.found (p.c - 1) p.c → seen ≡ Ok moved → (done : Result Settled Damaged)
-      → done ≡ judged p (record { root = out.root; least = out.least; c = live; found = out.found; moved = moved })
+      → (live : ℕ) → live ≡ cond out.found (p.c - 1) p.c → seen.fit ≡ Ok tt → (done : Result Settled Damaged)
+      → done ≡ judged p (record { root = out.root; least = out.least; c = live; found = out.found; moved = seen.moved })
       → Prepares damaged left p.sizes.h path done
   unfolding removal
-  left-judged path out work live moved count good done e =
+  left-judged path out work live count good done e =
       let a = rw (looked.way, looked.siblings) at work in
       let k : live ≡ left.c = count ∙ rw a.finds in
-      let (passed, counted) = told-done _ _ seen looked.verdict moved good in
+      let passed = (told-done _ _ seen.fit looked.verdict tt good).0 in
       is-prepared p damaged left p.sizes.h path done (path_bad p root ws q) _ told passed
-      (λ i. record { root = a.root i; least = a.least i; c = k i; found = a.finds i; moved = counted i }) a.buckets e
+      (λ i. record { root = a.root i; least = a.least i; c = k i; found = a.finds i; moved = looked.counted i }) a.buckets e
 
 -- "4h(2Z+3)": the siblings' words, and those of the buckets fetched and stored
 pub path-words : (s : Sizes) (q : Leaf)

@@ -15,6 +15,7 @@ ghost use Rattle.settle.specs.Settled.{Prepares, Settles, Writes};
 ghost use Rattle.path.specs.Cut.{Cut};
 ghost use Rattle.settle.specs.Room.{RemovalRoom};
 
+use look::Looked;
 use parts::Parts;
 use path::{ROOT_PLACES, Sizes};
 use record::{Leaf, RECORD_WORDS, Record, Stamp};
@@ -49,7 +50,8 @@ fn prepare_removal(
     let mut beside = [0u64; SIBLINGS_MOST];
     let w = &mut way[0..slots];
     let sibs = &mut beside[0..siblings];
-    let moved = look::look_path(words, w, sibs, root, parts, leaf)?;
+    let Looked { moved, fit } = look::look_path(words, w, sibs, root, parts, leaf);
+    fit?;
     let Removed { root, least, found } = work::remove_path(
         w, sibs, path, root, sizes, leaf, label, stamp,
     );

@@ -13,6 +13,10 @@ abbrev pub bytes_of : Option Answer → List ℕ
 bytes_of None = unreadable_line
 bytes_of (Some answer) = answer_line (numbers_of answer)
 
+-- the desk behind a line, and how many bytes were printed
+abbrev pub printed_of : Desk → ℕ → Printed
+printed_of desk bytes = record { desk = desk; bytes = bytes }
+
 -- the promise for a line of bytes: the desk and every lent word as the step leaves them, and every byte that is printed
 pub record Prints (desk : Desk) (line tree later out printed : List ℕ) (r : Printed) : Type 0 where
   pub state : r.desk ≡ (step_of desk (line_says line) tree).turn.desk

@@ -3,12 +3,12 @@
 #![tactic(auto)]
 
 ghost use Rattle.decimal.specs.Promises.{Laid};
-ghost use Rattle.replies.specs.Reply.{bytes_of, Prints};
+ghost use Rattle.replies.specs.Reply.{bytes_of, printed_of, Prints};
 
 use answers::Answer;
 use steps::Desk;
 
-// The desk afterwards, and how many bytes were printed.
+// The desk afterwards, and how many bytes were printed. Contracts alone speak of it: the desk is written where it was lent.
 #[derive(Clone, Copy)]
 pub struct Printed {
     pub desk: Desk,
@@ -26,14 +26,11 @@ pub fn print_reply(reply: Option<Answer>, out: &mut [u8]) -> usize
     }
 }
 
-// What the bytes of a line, without its end, make the desk do and print.
-pub fn answer_line(desk: Desk, line: &[u8], tree: &mut [u64], out: &mut [u8]) -> Printed
-    ensures { Prints desk line.now tree.old tree.new out.old out.new result }
+// What the bytes of a line, without its end, make the desk do and print, and how many bytes were printed.
+pub fn answer_line(desk: &mut Desk, line: &[u8], tree: &mut [u64], out: &mut [u8]) -> usize
+    ensures { Prints desk.old line.now tree.old tree.new out.old out.new (printed_of desk.new result) }
 {
     let said = lines::read_line(line);
-    let turn = turns::step(desk, said, tree);
-    Printed {
-        desk: turn.desk,
-        bytes: print_reply(turn.reply, out),
-    }
+    let reply = turns::step(desk, said, tree);
+    print_reply(reply, out)
 }

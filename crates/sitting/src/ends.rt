@@ -20,10 +20,14 @@ pub fn open() -> Sitting
 pub fn close(sitting: Sitting, tree: &mut [u64], out: &mut [u8]) -> usize
     ensures { Closes sitting tree.old tree.new out.old result out.new }
 {
-    let Sitting { desk, line, held } = sitting;
+    let Sitting {
+        mut desk,
+        line,
+        held,
+    } = sitting;
     if held == 0 {
         return 0;
     }
     let n = held.min(LINE_HELD);
-    replies::answer_line(desk, &line[..n], tree, out).bytes
+    replies::answer_line(&mut desk, &line[..n], tree, out)
 }

@@ -24,9 +24,8 @@ pub fn feed(sitting: Sitting, tree: &mut [u64], chunk: &[u8], out: &mut [u8]) ->
         taken = got.next;
         held = got.held;
         if got.ended {
-            let done = replies::answer_line(desk, &line[..held], tree, &mut out[written..]);
-            desk = done.desk;
-            written += done.bytes;
+            let bytes = replies::answer_line(&mut desk, &line[..held], tree, &mut out[written..]);
+            written += bytes;
             held = 0;
         }
     }

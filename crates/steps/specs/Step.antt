@@ -20,6 +20,10 @@ use Rattle.steps.specs.declared.Turn.{Turn}
 abbrev pub Desk : Type 0
 Desk = Option Card
 
+-- the desk behind a line, and its reply
+abbrev pub turn_of : Desk → Option Answer → Turn
+turn_of desk reply = record { desk = desk; reply = reply }
+
 -- ---- the reply: an answer, or none, which prints `?`
 -- "prints `?` and changes nothing"
 abbrev pub unread : Desk → Turn

@@ -1,28 +1,26 @@
 // The three ways a line ends: `?`, an answer that leaves the desk as it was, an answer with the card that came of it.
 ghost use Rattle.std.specs.Prelude.{◌≡◌};
-ghost use Rattle.steps.specs.Step.{unread, kept, tells};
+ghost use Rattle.steps.specs.Step.{turn_of, unread, kept, tells};
 
-use crate::{Desk, Turn};
+use crate::Desk;
 use answers::Answer;
 use card::Done;
 
-pub fn unread_by(desk: Desk) -> Turn
-    ensures { result ≡ unread desk }
+pub fn unread_by(desk: &mut Desk) -> Option<Answer>
+    ensures { turn_of desk.new result ≡ unread desk.old }
 {
-    Turn { desk, reply: None }
+    None
 }
 
-pub fn kept_by(desk: Desk, answer: Answer) -> Turn
-    ensures { result ≡ kept desk answer }
+pub fn kept_by(desk: &mut Desk, answer: Answer) -> Option<Answer>
+    ensures { turn_of desk.new result ≡ kept desk.old answer }
 {
-    Turn {
-        desk,
-        reply: Some(answer),
-    }
+    Some(answer)
 }
 
-pub fn told_by(done: Done) -> Turn
-    ensures { result ≡ tells done }
+pub fn told_by(desk: &mut Desk, done: Done) -> Option<Answer>
+    ensures { turn_of desk.new result ≡ tells done }
 {
-    kept_by(Some(done.card), done.answer)
+    *desk = Some(done.card);
+    kept_by(desk, done.answer)
 }

@@ -13,7 +13,8 @@ pub use room::{tree_words, used};
 // The desk between two lines: its card, or none until a `size` is accepted.
 pub type Desk = Option<Card>;
 
-// What a line comes to: the desk behind it, and the answer that is printed; none where the line is not understood, which prints `?`.
+// What a line comes to: the desk behind it, and the answer that is printed; none where the line is not understood, which prints `?`. Contracts alone
+// speak of it: a function writes the desk where it was lent, and hands back the answer.
 #[derive(Clone, Copy)]
 pub struct Turn {
     pub desk: Desk,

@@ -37,7 +37,7 @@ fn least_true(path: &[u64], sibs: &[u64], sizes: Sizes, leaf: Leaf, level: u64) 
     let first = (level as usize - 1) * (z + 1);
     let kid = least_kid(path, sibs, sizes, leaf, level);
     let given = least::least_over(path, first + 1, z, kid);
-    Record::read(path, first) == given
+    Record::read(path, first).same(given)
 }
 
 // For crates above: clause 3 for one path, level by level.

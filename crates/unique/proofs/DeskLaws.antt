@@ -36,20 +36,20 @@ one-play =
     one-answer 1 play-kinds.ps play-kinds.r play.Asked play.Learnt _ _
     (λ κs a ok x xs f p. ((comes-to _ _ _ _ _ p).0, λ i. (tt, (tt, ((comes-to _ _ _ _ _ p).1 i, tt)))))
 
-pub one-unread-by : Determines 0 unread-by-kinds.ps unread-by-kinds.r unread-by.Asked unread-by.Learnt
+pub one-unread-by : Determines 1 unread-by-kinds.ps unread-by-kinds.r unread-by.Asked unread-by.Learnt
 one-unread-by =
-    one-answer 0 unread-by-kinds.ps unread-by-kinds.r unread-by.Asked unread-by.Learnt _ _
-    (λ κs a ok x xs f p. (p, refl))
+    one-answer 1 unread-by-kinds.ps unread-by-kinds.r unread-by.Asked unread-by.Learnt _ _
+    (λ κs a ok x xs f p. (λ i. (p i).reply, λ i. ((p i).desk, tt)))
 
-pub one-kept-by : Determines 0 kept-by-kinds.ps kept-by-kinds.r kept-by.Asked kept-by.Learnt
+pub one-kept-by : Determines 1 kept-by-kinds.ps kept-by-kinds.r kept-by.Asked kept-by.Learnt
 one-kept-by =
-    one-answer 0 kept-by-kinds.ps kept-by-kinds.r kept-by.Asked kept-by.Learnt _ _
-    (λ κs a ok x xs f p. (p, refl))
+    one-answer 1 kept-by-kinds.ps kept-by-kinds.r kept-by.Asked kept-by.Learnt _ _
+    (λ κs a ok x xs f p. (λ i. (p i).reply, λ i. ((p i).desk, (tt, tt))))
 
-pub one-told-by : Determines 0 told-by-kinds.ps told-by-kinds.r told-by.Asked told-by.Learnt
+pub one-told-by : Determines 1 told-by-kinds.ps told-by-kinds.r told-by.Asked told-by.Learnt
 one-told-by =
-    one-answer 0 told-by-kinds.ps told-by-kinds.r told-by.Asked told-by.Learnt _ _
-    (λ κs a ok x xs f p. (p, refl))
+    one-answer 1 told-by-kinds.ps told-by-kinds.r told-by.Asked told-by.Learnt _ _
+    (λ κs a ok x xs f p. (λ i. (p i).reply, λ i. ((p i).desk, (tt, tt))))
 
 pub one-tree-words : Determines 0 tree-words-kinds.ps tree-words-kinds.r tree-words.Asked tree-words.Learnt
 one-tree-words =
@@ -61,25 +61,25 @@ one-used =
     one-answer 0 used-kinds.ps used-kinds.r used.Asked used.Learnt _ _
     (λ κs a ok x xs f p. (p, refl))
 
-pub one-ask : Determines 1 ask-kinds.ps ask-kinds.r ask.Asked ask.Learnt
+pub one-ask : Determines 2 ask-kinds.ps ask-kinds.r ask.Asked ask.Learnt
 one-ask =
-    one-answer 1 ask-kinds.ps ask-kinds.r ask.Asked ask.Learnt _ _
-    (λ κs a ok x xs f p. (p.said, λ i. (tt, (tt, (p.lent i, tt)))))
+    one-answer 2 ask-kinds.ps ask-kinds.r ask.Asked ask.Learnt _ _
+    (λ κs a ok x xs f p. (λ i. (p.said i).reply, λ i. ((p.said i).desk, (tt, (p.lent i, tt)))))
 
-pub one-size : Determines 1 size-kinds.ps size-kinds.r size.Asked size.Learnt
+pub one-size : Determines 2 size-kinds.ps size-kinds.r size.Asked size.Learnt
 one-size =
-    one-answer 1 size-kinds.ps size-kinds.r size.Asked size.Learnt _ _
-    (λ κs a ok x xs f p. (p.said, λ i. (tt, (tt, (tt, (tt, (tt, (p.lent i, tt))))))))
+    one-answer 2 size-kinds.ps size-kinds.r size.Asked size.Learnt _ _
+    (λ κs a ok x xs f p. (λ i. (p.said i).reply, λ i. ((p.said i).desk, (tt, (tt, (tt, (tt, (p.lent i, tt))))))))
 
-pub one-min : Determines 0 min-kinds.ps min-kinds.r min.Asked min.Learnt
+pub one-min : Determines 1 min-kinds.ps min-kinds.r min.Asked min.Learnt
 one-min =
-    one-answer 0 min-kinds.ps min-kinds.r min.Asked min.Learnt _ _
-    (λ κs a ok x xs f p. (p, refl))
+    one-answer 1 min-kinds.ps min-kinds.r min.Asked min.Learnt _ _
+    (λ κs a ok x xs f p. (λ i. (p i).reply, λ i. ((p i).desk, tt)))
 
-pub one-step : Determines 1 step-kinds.ps step-kinds.r step.Asked step.Learnt
+pub one-step : Determines 2 step-kinds.ps step-kinds.r step.Asked step.Learnt
 one-step =
-    one-answer 1 step-kinds.ps step-kinds.r step.Asked step.Learnt _ _
-    (λ κs a ok x xs f p. (p.said, λ i. (tt, (tt, (p.lent i, tt)))))
+    one-answer 2 step-kinds.ps step-kinds.r step.Asked step.Learnt _ _
+    (λ κs a ok x xs f p. (λ i. (p.said i).reply, λ i. ((p.said i).desk, (tt, (p.lent i, tt)))))
 
 pub one-print-said : Determines 1 print-said-kinds.ps print-said-kinds.r print-said.Asked print-said.Learnt
 one-print-said =
@@ -91,7 +91,7 @@ one-print-reply =
     one-answer 1 print-reply-kinds.ps print-reply-kinds.r print-reply.Asked print-reply.Learnt _ _
     (λ κs a ok x xs f p. (p.counted, λ i. (tt, (p.lent i, tt))))
 
-pub one-answer-line : Determines 3 answer-line-kinds.ps answer-line-kinds.r answer-line.Asked answer-line.Learnt
+pub one-answer-line : Determines 4 answer-line-kinds.ps answer-line-kinds.r answer-line.Asked answer-line.Learnt
 one-answer-line =
-    one-answer 3 answer-line-kinds.ps answer-line-kinds.r answer-line.Asked answer-line.Learnt _ _
-    (λ κs a ok x xs f p. (λ i. record { desk = p.state i; bytes = p.bytes.counted i }, λ i. (tt, (tt, (p.lent i, (p.bytes.lent i, tt))))))
+    one-answer 4 answer-line-kinds.ps answer-line-kinds.r answer-line.Asked answer-line.Learnt _ _
+    (λ κs a ok x xs f p. (p.bytes.counted, λ i. (p.state i, (tt, (p.lent i, (p.bytes.lent i, tt))))))

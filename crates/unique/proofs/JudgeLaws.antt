@@ -170,12 +170,12 @@ one-judged =
 pub one-look-path : Determines 3 look-path-kinds.ps look-path-kinds.r look-path.Asked look-path.Learnt
 one-look-path =
     one-answer 3 look-path-kinds.ps look-path-kinds.r look-path.Asked look-path.Learnt _ _
-    (λ κs a ok x xs f p. (p.verdict, λ i. (tt, (full-words _ _ _ (f.1.0 ∙ ok.slots) p.way i, (full-words _ _ _ (f.1.1.0 ∙ ok.siblings) p.siblings i, (tt, (tt, (tt, tt))))))))
+    (λ κs a ok x xs f p. (λ i. record { moved = p.counted i; fit = p.verdict i }, λ i. (tt, (full-words _ _ _ (f.1.0 ∙ ok.slots) p.way i, (full-words _ _ _ (f.1.1.0 ∙ ok.siblings) p.siblings i, (tt, (tt, (tt, tt))))))))
 
 pub one-look-pair : Determines 3 look-pair-kinds.ps look-pair-kinds.r look-pair.Asked look-pair.Learnt
 one-look-pair =
     one-answer 3 look-pair-kinds.ps look-pair-kinds.r look-pair.Asked look-pair.Learnt _ _
-    (λ κs a ok x xs f p. (p.verdict, λ i. (tt, (full-words _ _ _ (f.1.0 ∙ ok.slots) p.way i, (full-words _ _ _ (f.1.1.0 ∙ ok.siblings) p.siblings i, (tt, (tt, (tt, (tt, tt)))))))))
+    (λ κs a ok x xs f p. (λ i. record { moved = p.counted i; fit = p.verdict i }, λ i. (tt, (full-words _ _ _ (f.1.0 ∙ ok.slots) p.way i, (full-words _ _ _ (f.1.1.0 ∙ ok.siblings) p.siblings i, (tt, (tt, (tt, (tt, tt)))))))))
 
 pub one-prepare-insertion : Determines 3 prepare-insertion-kinds.ps prepare-insertion-kinds.r prepare-insertion.Asked prepare-insertion.Learnt
 one-prepare-insertion =

@@ -19,6 +19,8 @@ use Rattle.fields.proofs.end_of.Kinds as end-of-kinds
 use Rattle.fields.proofs.end_of.Reads as end-of
 use Rattle.fields.proofs.same.Kinds as same-kinds
 use Rattle.fields.proofs.same.Reads as same
+use Rattle.fields.proofs.read_numbers.Kinds as read-numbers-kinds
+use Rattle.fields.proofs.read_numbers.Reads as read-numbers
 use Rattle.fields.proofs.numbers.Kinds as numbers-kinds
 use Rattle.fields.proofs.numbers.Reads as numbers
 use Rattle.lines.proofs.read_line.Kinds as read-line-kinds
@@ -61,6 +63,11 @@ pub one-same : Determines 2 same-kinds.ps same-kinds.r same.Asked same.Learnt
 one-same =
     one-answer 2 same-kinds.ps same-kinds.r same.Asked same.Learnt _ _
     (λ κs a ok x xs f p. (p, refl))
+
+pub one-read-numbers : Determines 2 read-numbers-kinds.ps read-numbers-kinds.r read-numbers.Asked read-numbers.Learnt
+one-read-numbers =
+    one-answer 2 read-numbers-kinds.ps read-numbers-kinds.r read-numbers.Asked read-numbers.Learnt _ _
+    (λ κs a ok x xs f p. (p.told, λ i. (tt, (tt, (p.these i, tt)))))
 
 -- of any count of numbers
 module _ (count : ℕ) (fits : Fits w64 count) where

@@ -58,20 +58,20 @@ unfolding seek
 seek-none f zero = refl
 seek-none f (suc n) = refl
 
-abbrev seek_from : (Record → Bool) → ℕ → List ℕ → ℕ → ℕ
+abbrev pub seek_from : (Record → Bool) → ℕ → List ℕ → ℕ → ℕ
 seek_from f n w i = i + seek f (n - i) (drop i (records w))
 
 module _ (f : Record → Bool) (n : ℕ) (w : List ℕ) where
-  seek-starts : seek f n (records w) ≡ seek_from f n w 0
+  pub seek-starts : seek f n (records w) ≡ seek_from f n w 0
   seek-starts = let e : n - 0 ≡ n = omega arith in rw e (omega arith)
 
   module _ (i : ℕ) where
-    seek-ends : n ≤ i → seek_from f n w i ≡ i
+    pub seek-ends : n ≤ i → seek_from f n w i ≡ i
     unfolding seek
     seek-ends l = let e : n - i ≡ 0 = omega arith in rw e (omega arith)
 
     -- past the last record there is none to find
-    seek-past : i ≤ n → length w / 4 ≤ i → seek_from f n w i ≡ n
+    pub seek-past : i ≤ n → length w / 4 ≤ i → seek_from f n w i ≡ n
     seek-past l h = rw (drop_of_length-le (records w) {i = i} (omega (arith, records-count w)), seek-none f (n - i)) (omega arith)
 
     module _ (l : i < n) (h : 4 * i + 4 ≤ length w) where
@@ -81,10 +81,10 @@ module _ (f : Record → Bool) (n : ℕ) (w : List ℕ) where
       unfolding seek
       next = let e : n - i ≡ suc (n - (i + 1)) = omega arith in rw (e, records-next w i (omega arith))
 
-      seek_found : f (record_at w i) ≡ true → seek_from f n w i ≡ i
+      pub seek_found : f (record_at w i) ≡ true → seek_from f n w i ≡ i
       seek_found t = rw (next, t) (omega arith)
 
-      seek-turns : f (record_at w i) ≡ false → seek_from f n w i ≡ seek_from f n w (i + 1)
+      pub seek-turns : f (record_at w i) ≡ false → seek_from f n w i ≡ seek_from f n w (i + 1)
       seek-turns t = rw (next, t) (omega arith)
 
       found-at : seek f n (records w) ≡ seek_from f n w i → f (record_at w i) ≡ true → Some i ≡ placed n (seek f n (records w))

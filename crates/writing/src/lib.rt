@@ -6,13 +6,14 @@ ghost use Rattle.std.specs.Prelude.{◌≡◌, length};
 ghost use Rattle.writing.specs.Stored.{StoreRoom, Stored};
 
 use path::{Sizes, bucket_words};
+use record::copy_words;
 
 // For crates above: the bucket writer. A part of the words, one bucket long, takes the words of another just as long.
 pub fn write_part(part: &mut [u64], from: &[u64])
     requires { length part.old ≡ length from.now }
     ensures { part.new ≡ from.now }
 {
-    part.copy_from_slice(from);
+    copy_words(part, 0, from, 0, from.len());
 }
 
 // For crates above: the prepared buckets of a path are written, each into its part of the fetched words, and the words

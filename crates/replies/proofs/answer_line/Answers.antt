@@ -5,4 +5,4 @@ use Rattle.replies.proofs.answer_line.Goals as goal
 pub returns : goal.returns
 returns c =
     let s = c.args in
-    line-printed s.out.now _ _ s.desk s.line.now s.tree.now _ _ _ c.read_line-said.ensures c.step-turn.ensures c.print_reply.ensures
+    line-printed s.out.now _ _ s.desk.now s.line.now s.tree.now _ _ _ c.read_line-said.ensures c.step-reply.ensures c.print_reply.ensures

@@ -45,7 +45,7 @@ pub overflow_add-written : goal.overflow_add-written
 overflow_add-written c =
     let good = c.well_formed in
     let room = feeding-room _ _ _ _ _ _ _ _ _ _ c.loop-line.invariant in
-    let f = turn-ended _ _ _ _ _ _ _ _ _ _ c.loop-line.invariant _ c.goes_on.ensures c.loop-line-test.true _ _ c.take_line-got.ensures c.if-got.true _ _ _ c.answer_line-done.ensures (omega arith) in
+    let f = turn-ended _ _ _ _ _ _ _ _ _ _ c.loop-line.invariant _ c.goes_on.ensures c.loop-line-test.true _ _ c.take_line-got.ensures c.if-got.true _ _ _ c.answer_line-bytes.ensures (omega arith) in
     omega (arith, f.fits)
 
 pub loop-line-smaller-then-got : goal.loop-line-smaller-then-got
@@ -54,7 +54,7 @@ loop-line-smaller-then-got c =
 
 pub loop-line-preserved-then-got : goal.loop-line-preserved-then-got
 loop-line-preserved-then-got c =
-    turn-ended _ _ _ _ _ _ _ _ _ _ c.loop-line.invariant _ c.goes_on.ensures c.loop-line-test.true _ _ c.take_line-got.ensures c.if-got.true _ _ _ c.answer_line-done.ensures (omega arith)
+    turn-ended _ _ _ _ _ _ _ _ _ _ c.loop-line.invariant _ c.goes_on.ensures c.loop-line-test.true _ _ c.take_line-got.ensures c.if-got.true _ _ _ c.answer_line-bytes.ensures (omega arith)
 
 pub loop-line-smaller : goal.loop-line-smaller
 loop-line-smaller c =
